@@ -1,0 +1,87 @@
+-- What a log stands for, and which events it allows.
+use Rattle.std.specs.Prelude.{◌≡◌, ◌≢◌, ℕ, ◌+◌, ◌-◌, ◌<◌, Bool, true, false, if◌then◌else◌, ◌==◌, nat_le, min, List, [], ◌∷◌, ◌++◌, length, Option, Some, None, filter}
+use Rattle.std.specs.Str.{bytes_eq}
+use Rattle.std.specs.Option.{option_map, option_and_then}
+use Rattle.intern_log.specs.declared.event.Handle.{Handle}
+use Rattle.intern_log.specs.declared.event.Entry.{Entry}
+use Rattle.intern_log.specs.declared.event.Event.{Event}
+use Rattle.intern_log.specs.declared.event.What.{What}
+use Rattle.intern_log.specs.declared.event.What.TheVariants.{Create, Take, Found, Drop, Perm, Kill}
+use Rattle.intern_log.specs.declared.event.TheConstants.{PERMANENT}
+use Rattle.intern_log.specs.TextMap.{TextMap, no_texts, entry_of, handle_eq, HasHandle, IsLive, put_at, alter, at_handle}
+
+-- the entry that a Create makes
+abbrev pub new_entry : Handle → Entry
+new_entry h = record { handle = h; count = 1 }
+
+-- one more count; 65,535 stays
+abbrev pub raised : Entry → Entry
+raised e = record e { count = min (e.count + 1) PERMANENT }
+
+-- one count less; 65,535 stays, and at 0 the entry is gone
+abbrev pub lowered : Entry → Option Entry
+lowered e = if e.count == PERMANENT then Some e else if nat_le e.count 1 then None else Some (record e { count = e.count - 1 })
+
+-- the count that no drop lowers
+abbrev pub made_permanent : Entry → Entry
+made_permanent e = record e { count = PERMANENT }
+
+-- the map after one more event
+abbrev pub next : TextMap → What → TextMap
+next m (Create text h) = put_at m text (Some (new_entry h))
+next m (Take text h) = put_at m text (option_map raised (entry_of m text))
+next m (Drop h) = alter (at_handle h lowered) m
+next m (Perm h) = alter (at_handle h (λ e. Some (made_permanent e))) m
+next m (Kill h) = alter (at_handle h (λ e. None)) m
+next m _ = m
+
+-- the same, text by text: what an event makes of the entry of one text
+abbrev pub entry_after : What → List ℕ → Option Entry → Option Entry
+entry_after (Create text h) t entry = if bytes_eq t text then Some (new_entry h) else entry
+entry_after (Take text h) t entry = if bytes_eq t text then option_map raised entry else entry
+entry_after (Drop h) t entry = option_and_then (at_handle h lowered) entry
+entry_after (Perm h) t entry = option_and_then (at_handle h (λ e. Some (made_permanent e))) entry
+entry_after (Kill h) t entry = option_and_then (at_handle h (λ e. None)) entry
+entry_after _ t entry = entry
+
+-- the map allows the event: a Create of a text that is not live, by a handle of no entry; a Take or Found of a
+-- text with its handle; a Drop, Perm or Kill of a live handle; and each event that callers do not see
+abbrev pub Allows : TextMap → What → Type 0
+Allows m (Create text h) = (entry_of m text ≡ None) × (¬ (IsLive m h))
+Allows m (Take text h) = HasHandle m text h
+Allows m (Found text h) = HasHandle m text h
+Allows m (Drop h) = IsLive m h
+Allows m (Perm h) = IsLive m h
+Allows m (Kill h) = IsLive m h
+Allows m _ = Unit {0}
+
+-- the map after a list of events, and what a whole log stands for
+abbrev pub map_after : TextMap → List Event → TextMap
+map_after m [] = m
+map_after m (e ∷ es) = map_after (next m e.what) es
+
+abbrev pub map_of : List Event → TextMap
+map_of log = map_after no_texts log
+
+-- each event is allowed by the map at its place
+abbrev pub IsLegalFrom : TextMap → List Event → Type 0
+IsLegalFrom m [] = Unit {0}
+IsLegalFrom m (e ∷ es) = Allows m e.what × IsLegalFrom (next m e.what) es
+
+abbrev pub IsLegal : List Event → Type 0
+IsLegal log = IsLegalFrom no_texts log
+
+-- the handle that a Create gives
+abbrev pub created_handle : What → Option Handle
+created_handle (Create text h) = Some h
+created_handle _ = None
+
+-- whether the event creates this handle
+abbrev pub creates : What → Handle → Bool
+creates (Create text h) k = handle_eq h k
+creates _ k = false
+
+-- no handle stands in two Creates
+abbrev pub IsFresh : List Event → Type 0
+IsFresh [] = Unit {0}
+IsFresh (e ∷ es) = ((h : Handle) → creates e.what h ≡ true → filter (λ f. creates f.what h) es ≡ []) × IsFresh es

@@ -1,0 +1,15 @@
+//! Texts, handles and the events of a table, and what a list of events stands for.
+//!
+//! A table interns texts: equal texts have one handle while they are live. Whatever its callers do,
+//! in whatever order their steps fall, is told by one list of events, the table's **log**. Here stand
+//! the types of an event, and the definitions by which a log is read: the map from texts to entries
+//! that it stands for, which events that map allows, and which events are a caller's own. They know
+//! nothing of buckets, chains or words.
+#![tactic(auto)]
+
+pub mod event;
+pub mod laws;
+pub mod text;
+
+pub use event::{Entry, Event, Handle, Kind, PERMANENT, Released, What};
+pub use text::{MAX_TEXT, Text, TextFault};
