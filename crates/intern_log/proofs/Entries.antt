@@ -64,3 +64,6 @@ entry_of-next m (Unlink s) q = refl
 entry_of-next m ResizeTaken q = refl
 entry_of-next m ResizeGiven q = refl
 entry_of-next m (Level l) q = refl
+
+pub same_entries : (m n : TextMap) → ((text : List ℕ) → entry_of m text ≡ entry_of n text) → m ≡ n
+same_entries m n same = finite.same_map nat_list_cmp_total (finite.slice_cmp-IsAntisymmetric finite.nat_cmp-IsAntisymmetric) m n same

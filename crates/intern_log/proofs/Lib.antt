@@ -1,1 +1,4 @@
 pub mod Entries
+pub mod Logs
+pub mod Handles
+pub mod PlainLogLaws

@@ -1,5 +1,7 @@
 pub mod TextMap
 pub mod Log
 pub mod Own
+pub mod Counts
 pub mod Window
 pub mod Buckets
+pub mod PlainLogs

@@ -1,5 +1,6 @@
 -- What a log stands for, and which events it allows.
-use Rattle.std.specs.Prelude.{◌≡◌, ◌≢◌, ℕ, ◌+◌, ◌-◌, ◌<◌, Bool, true, false, if◌then◌else◌, ◌==◌, nat_le, min, List, [], ◌∷◌, ◌++◌, length, Option, Some, None, filter}
+use Rattle.std.specs.Prelude.{◌≡◌, ◌≢◌, ℕ, ◌+◌, ◌-◌, ◌<◌, Bool, true, false, if◌then◌else◌, ◌==◌, nat_le, min, List, [], ◌∷◌, ◌++◌, length, Option, Some, None}
+use Rattle.std.specs.List.{list_any}
 use Rattle.std.specs.Str.{bytes_eq}
 use Rattle.std.specs.Option.{option_map, option_and_then}
 use Rattle.intern_log.specs.declared.event.Handle.{Handle}
@@ -71,11 +72,6 @@ IsLegalFrom m (e ∷ es) = Allows m e.what × IsLegalFrom (next m e.what) es
 abbrev pub IsLegal : List Event → Type 0
 IsLegal log = IsLegalFrom no_texts log
 
--- the handle that a Create gives
-abbrev pub created_handle : What → Option Handle
-created_handle (Create text h) = Some h
-created_handle _ = None
-
 -- whether the event creates this handle
 abbrev pub creates : What → Handle → Bool
 creates (Create text h) k = handle_eq h k
@@ -84,4 +80,8 @@ creates _ k = false
 -- no handle stands in two Creates
 abbrev pub IsFresh : List Event → Type 0
 IsFresh [] = Unit {0}
-IsFresh (e ∷ es) = ((h : Handle) → creates e.what h ≡ true → filter (λ f. creates f.what h) es ≡ []) × IsFresh es
+IsFresh (e ∷ es) = ((h : Handle) → creates e.what h ≡ true → list_any (λ later. creates later.what h) es ≡ false) × IsFresh es
+
+-- two live texts never have one handle
+abbrev pub HandlesDiffer : TextMap → Type 0
+HandlesDiffer m = (text other : List ℕ) (h : Handle) → HasHandle m text h → HasHandle m other h → text ≡ other

@@ -9,12 +9,16 @@ use Rattle.intern_log.specs.declared.event.What.TheVariants.{Create, Take, Found
 abbrev pub by_seat : ℕ → List What → List Event
 by_seat seat whats = map (λ what. record { seat = seat; what = what }) whats
 
--- the event interns the text as the handle, in a counted table or in a weak one
+-- the event interns the text as the handle: it creates the entry, or meets it in the way of the table
+abbrev pub IsInternBy : (List ℕ → Handle → What) → List ℕ → Handle → What → Type 0
+IsInternBy meets text h what = (what ≡ Create text h) ⊎ (what ≡ meets text h)
+
+-- in a counted table an entry that is met is taken, in a weak one it is found
 abbrev pub IsCountedIntern : List ℕ → Handle → What → Type 0
-IsCountedIntern text h what = (what ≡ Create text h) ⊎ (what ≡ Take text h)
+IsCountedIntern text h what = IsInternBy Take text h what
 
 abbrev pub IsWeakIntern : List ℕ → Handle → What → Type 0
-IsWeakIntern text h what = (what ≡ Create text h) ⊎ (what ≡ Found text h)
+IsWeakIntern text h what = IsInternBy Found text h what
 
 -- the Drop of the handle that a window of `hold` handles lets go where `handles` were put in so far: the one `hold` places before the last
 abbrev pub dropped_from : Option Handle → List What
