@@ -10,7 +10,8 @@ use Rattle.intern_log.specs.TextMap.{TextMap, no_texts, entry_of, HasHandle}
 use Rattle.intern_log.specs.Log.{next, Allows, map_after, IsLegalFrom, IsLegal}
 use Rattle.intern_log.specs.Counts.{is_create}
 use Rattle.intern_log.specs.Window.{by_seat, IsInternBy, IsCountedIntern, IsWeakIntern, let_go, IsWindowRun, IsWindowList, IsLiteralList}
-use Rattle.intern_log.specs.PlainLogs.{slot_handle, slots_taken, IsNumbered, IsNumberedFrom, kills_of, final_texts, IsPlainSymbolLog, IsPlainStringLog}
+use Rattle.intern_log.specs.Finals.{finals}
+use Rattle.intern_log.specs.PlainLogs.{slot_handle, slots_taken, IsNumbered, IsNumberedFrom, kills_of, IsPlainSymbolLog, IsPlainStringLog}
 use Rattle.intern_log.proofs.Logs.{by_seat-append, IsLegalFrom-prefix, IsLegalFrom-rest}
 
 some_is_none : {e : Entry} → Some e ≡ None → ⊥
@@ -137,7 +138,7 @@ interns_legal interns kills legal = IsLegalFrom-prefix no_texts (by_seat 0 inter
 
 pub plain_string_log_is_one : (hold : ℕ) (literals : List (List ℕ)) (a b : List Event) → IsPlainStringLog hold literals a → IsPlainStringLog hold literals b → a ≡ b
 plain_string_log_is_one hold literals a b of_a of_b =
-    let whole : List What → List Event = λ interns. by_seat 0 (interns ++ kills_of (final_texts hold literals) interns) in
+    let whole : List What → List Event = λ interns. by_seat 0 (interns ++ kills_of (finals hold literals) interns) in
     of_a.by_one
     ∙ ap whole (literals_are_one no_texts 0 literals of_a.interns of_b.interns of_a.literals_in_order of_b.literals_in_order
     (interns_legal of_a.interns _ (subst IsLegal of_a.by_one of_a.legal)) (interns_legal of_b.interns _ (subst IsLegal of_b.by_one of_b.legal)) of_a.numbered of_b.numbered)

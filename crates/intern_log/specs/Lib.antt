@@ -4,4 +4,5 @@ pub mod Own
 pub mod Counts
 pub mod Window
 pub mod Buckets
+pub mod Finals
 pub mod PlainLogs

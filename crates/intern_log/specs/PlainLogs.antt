@@ -7,16 +7,9 @@ use Rattle.intern_log.specs.declared.event.Event.{Event}
 use Rattle.intern_log.specs.declared.event.What.{What}
 use Rattle.intern_log.specs.declared.event.What.TheVariants.{Create, Kill}
 use Rattle.intern_log.specs.Counts.{is_create}
+use Rattle.intern_log.specs.Finals.{finals, is_among_texts}
 use Rattle.intern_log.specs.Log.{IsLegal}
 use Rattle.intern_log.specs.Window.{by_seat, IsWindowList, IsLiteralList}
-
--- the last `hold` of the texts
-abbrev pub final_texts : ℕ → List (List ℕ) → List (List ℕ)
-final_texts hold texts = drop (length texts - hold) texts
-
--- whether the text is among the texts
-abbrev pub is_among_texts : List (List ℕ) → List ℕ → Bool
-is_among_texts texts text = list_any (bytes_eq text) texts
 
 -- the handle of the n-th Create, counted from 0, where no slot is used twice
 abbrev pub slot_handle : ℕ → Handle
@@ -38,12 +31,12 @@ IsNumberedFrom first (what ∷ whats) = IsNumbered first what × IsNumberedFrom 
 
 -- the Kill of a text that was created and is not among the final ones
 abbrev pub kill_of : List (List ℕ) → What → Option What
-kill_of finals (Create text h) = if is_among_texts finals text then None else Some (Kill h)
-kill_of finals _ = None
+kill_of final_texts (Create text h) = if is_among_texts final_texts text then None else Some (Kill h)
+kill_of final_texts _ = None
 
 -- one Kill for each text that was created and is not among the final ones, in the order of their Creates
 abbrev pub kills_of : List (List ℕ) → List What → List What
-kills_of finals whats = filter_map (kill_of finals) whats
+kills_of final_texts whats = filter_map (kill_of final_texts) whats
 
 -- the log of the names: the window list by seat 0 that is legal and whose Creates are numbered
 pub record IsPlainSymbolLog (hold : ℕ) (names : List (List ℕ)) (log : List Event) : Type 0 where
@@ -56,7 +49,7 @@ pub record IsPlainSymbolLog (hold : ℕ) (names : List (List ℕ)) (log : List E
 -- the log of the literals: one intern each by seat 0, then the Kills of those that are not final, legal and with numbered Creates
 pub record IsPlainStringLog (hold : ℕ) (literals : List (List ℕ)) (log : List Event) : Type 0 where
   pub interns : List What
-  pub by_one : log ≡ by_seat 0 (interns ++ kills_of (final_texts hold literals) interns)
+  pub by_one : log ≡ by_seat 0 (interns ++ kills_of (finals hold literals) interns)
   pub literals_in_order : IsLiteralList literals interns
   pub legal : IsLegal log
   pub numbered : IsNumberedFrom 0 interns
