@@ -1,9 +1,10 @@
 -- Two live texts never have one handle.
-use Rattle.std.proofs.Common.{◌≡◌, ℕ, Bool, true, false, cond, List, [], ◌∷◌, ◌++◌, Option, Some, None, ◌-◌, ◌==◌, nat_le, ◌⊎◌, inl, inr, refl, sym, ap, subst, ◌∙◌}
+use Rattle.std.proofs.Common.{◌≡◌, ℕ, Bool, true, false, cond, List, [], ◌∷◌, ◌++◌, Option, Some, None, ◌-◌, ◌==◌, nat_le, ◌&&◌, ◌⊎◌, inl, inr, refl, sym, ap, subst, ◌∙◌}
 use Rattle.std.specs.Bool.{Decides}
 use Rattle.std.specs.Str.{bytes_eq}
 use Rattle.std.specs.Option.{option_map, option_and_then}
 use Rattle.std.proofs.lemmas.Slice.Eq.{bytes_eq-Decides}
+use Rattle.std.proofs.lemmas.Bool.Decides.{Decides-eqb}
 use Rattle.std.specs.FinMap as finite
 use Rattle.std.specs.Ordering.{nat_cmp}
 use Rattle.std.specs.Cmp.Lexicographic.{slice_cmp}
@@ -117,3 +118,25 @@ HandlesDiffer-none t u h at_t at_u = absurd (no_text_has t h at_t)
 
 pub live_handles_differ_lem : (log : List Event) → IsLegal log → HandlesDiffer (map_of log)
 live_handles_differ_lem log legal = HandlesDiffer-after no_texts log HandlesDiffer-none legal
+
+both_hold : (x y : Bool) → (x && y) ≡ true → (x ≡ true) × (y ≡ true)
+both_hold true y is = (refl, is)
+both_hold false y is = absurd (not_so is)
+  where
+    not_so : false ≡ true → ⊥
+    not_so equal = cc
+
+same_as_itself : (a : Handle) → handle_eq a a ≡ true
+same_as_itself a =
+    let slots = (Decides-eqb a.slot a.slot).1 refl in
+    let generations = (Decides-eqb a.generation a.generation).1 refl in
+    ap (λ x. x && (a.generation == a.generation)) slots ∙ generations
+
+-- two handles are the same where the test says so
+pub handle_eq-Decides : (a b : Handle) → Decides (handle_eq a b) (a ≡ b)
+handle_eq-Decides a b =
+    ((λ is. let parts = both_hold (a.slot == b.slot) (a.generation == b.generation) is in
+       let slots = (Decides-eqb a.slot b.slot).0 parts.0 in
+       let generations = (Decides-eqb a.generation b.generation).0 parts.1 in
+       λ i. record { slot = slots i; generation = generations i }),
+     (λ same. subst (λ k. handle_eq a k ≡ true) same (same_as_itself a)))

@@ -1,0 +1,9 @@
+pub mod Texts
+pub mod Cuts
+pub mod Scans
+pub mod Standing
+pub mod ReportLemmas
+pub mod FinalItems
+pub mod Holds
+pub mod Pushes
+pub mod SymbolSteps
