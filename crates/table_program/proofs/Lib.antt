@@ -7,3 +7,4 @@ pub mod FinalItems
 pub mod Holds
 pub mod Pushes
 pub mod SymbolSteps
+pub mod SymbolNames

@@ -2,4 +2,5 @@
 #![tactic(auto)]
 
 pub mod name_scan;
+mod names;
 pub mod table_report;
