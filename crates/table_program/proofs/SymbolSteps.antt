@@ -226,6 +226,7 @@ none_out hold window h is = by_test (nat_lt (length window) hold) refl is
     front : (hs : List Handle) → None ≡ slice_get (hs ++ h ∷ []) 0 → ⊥
     front [] none = no_item h (sym none)
     front (x ∷ hs) none = no_item x (sym none)
+
     by_test : (b : Bool) → nat_lt (length window) hold ≡ b → None ≡ cond b None (slice_get (window ++ h ∷ []) 0) → length window < hold
     by_test true test none = ltb-true (length window) hold test
     by_test false test none = absurd (front window none)
