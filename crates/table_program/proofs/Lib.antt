@@ -7,3 +7,5 @@ pub mod FinalItems
 pub mod Holds
 pub mod Pushes
 pub mod SymbolSteps
+pub mod LiveTexts
+pub mod References
