@@ -1,8 +1,16 @@
 -- The last items of a list as it grows by one.
-use Rattle.std.proofs.Common.{◌≡◌, ℕ, zero, suc, ◌+◌, ◌-◌, ◌<◌, ◌≤◌, List, [], ◌∷◌, ◌++◌, Option, Some, None, length, drop, map, refl, sym, ap, ◌∙◌, arith, length-append, length-drop}
+use Rattle.std.proofs.Common.{◌≡◌, ℕ, zero, suc, ◌+◌, ◌-◌, ◌<◌, ◌≤◌, List, [], ◌∷◌, ◌++◌, Option, Some, None, length, drop, map, refl, sym, ap, ◌∙◌, arith, length-append, length-drop, ◌⊎◌, inl, inr, Bool, true, false, nat_lt}
 use Rattle.std.specs.Prelude.{slice_get}
 use Rattle.std.proofs.lemmas.List.{length-map, drop-map, drop-append-le}
+use Rattle.std.proofs.lemmas.Bool.{ltb-true, ltb-false}
 use Rattle.intern_log.specs.Finals.{finals}
+
+lt_or_le : (a b : ℕ) → (a < b) ⊎ (b ≤ a)
+lt_or_le a b = by_test (nat_lt a b) refl
+  where
+    by_test : (test : Bool) → nat_lt a b ≡ test → (a < b) ⊎ (b ≤ a)
+    by_test true is = inl (ltb-true a b is)
+    by_test false is = inr (ltb-false a b is)
 
 module _ {X : Type 0} where
   -- the item at a place, and what is behind it
@@ -45,3 +53,19 @@ module _ {X : Type 0} where
 
   pub length-finals : (hold : ℕ) (xs : List X) → length (finals hold xs) ≤ hold
   length-finals hold xs = omega (arith, length-drop (length xs - hold) xs)
+
+  -- the last items of a list of no more than that many are all of them
+  pub finals_all : (hold : ℕ) (xs : List X) → length xs ≤ hold → finals hold xs ≡ xs
+  finals_all hold xs few = let none : length xs - hold ≡ 0 = omega arith in ap (λ n. drop n xs) none
+
+  -- what leaves the last items leaves them for good
+  pub finals-again : (hold : ℕ) (xs : List X) (x : X) → 0 < hold → finals hold (finals hold xs ++ x ∷ []) ≡ finals hold (xs ++ x ∷ [])
+  finals-again hold xs x some = by_room (lt_or_le (length xs) hold)
+    where
+      by_room : (length xs < hold) ⊎ (hold ≤ length xs) → finals hold (finals hold xs ++ x ∷ []) ≡ finals hold (xs ++ x ∷ [])
+      by_room (inl room) = ap (finals hold) (sym (finals-push_room hold xs x room)) ∙ finals_all hold (finals hold (xs ++ x ∷ [])) (length-finals hold (xs ++ x ∷ []))
+      by_room (inr full) =
+          let leaves = finals-push_full hold xs x full some in
+          let all : length (finals hold (xs ++ x ∷ [])) ≡ hold = omega (arith, length-drop (length (xs ++ x ∷ []) - hold) (xs ++ x ∷ []), length-append xs (x ∷ [])) in
+          let one : length (leaves.first ∷ finals hold (xs ++ x ∷ [])) - hold ≡ suc zero = omega arith in
+          ap (finals hold) leaves.rest ∙ ap (λ n. drop n (leaves.first ∷ finals hold (xs ++ x ∷ []))) one

@@ -5,4 +5,5 @@ pub mod Report
 pub mod FileTexts
 pub mod PlainReport
 pub mod Holding
+pub mod OneSeatLog
 pub mod SymbolRun

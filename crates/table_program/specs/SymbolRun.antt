@@ -1,15 +1,16 @@
 -- What an interner, a window and counts stand for on the way through a file's names.
-use Rattle.std.specs.Prelude.{◌≡◌, ℕ, ◌+◌, ◌≤◌, List, [], ◌∷◌, ◌++◌, length, map, count_by}
+use Rattle.std.specs.Prelude.{◌≡◌, ℕ, ◌+◌, ◌≤◌, List, [], ◌∷◌, ◌++◌, length, map, count_by, if◌then◌else◌}
 use Rattle.intern_log.specs.declared.event.Handle.{Handle}
 use Rattle.intern_log.specs.declared.event.What.{What}
 use Rattle.intern_log.specs.TextMap.{TextMap}
-use Rattle.intern_log.specs.Log.{map_of, IsLegal}
+use Rattle.intern_log.specs.Log.{next, Allows}
 use Rattle.intern_log.specs.Counts.{is_create, is_take, is_drop}
 use Rattle.intern_log.specs.Finals.{finals}
-use Rattle.intern_log.specs.Window.{by_seat, IsWindowRun}
-use Rattle.intern_log.specs.PlainLogs.{IsNumberedFrom}
+use Rattle.intern_log.specs.Window.{IsCountedIntern, IsWindowRun}
+use Rattle.intern_log.specs.PlainLogs.{IsNumbered, slots_taken}
 use Rattle.table_program.specs.declared.table_report.SymbolCounts.{SymbolCounts}
 use Rattle.table_program.specs.Holding.{Held, Holds}
+use Rattle.table_program.specs.OneSeatLog.{OneSeatLog}
 
 abbrev pub held_texts : List Held → List (List ℕ)
 held_texts pairs = map (λ (p : Held). p.0) pairs
@@ -23,18 +24,35 @@ pub record CountsOf (whats : List What) (counts : SymbolCounts) : Type 0 where
   pub taken : counts.taken ≡ count_by is_take whats
   pub dropped : counts.dropped ≡ count_by is_drop whats
 
+-- the new counts are the old ones and this event
+pub record CountsOneMore (old : SymbolCounts) (what : What) (new : SymbolCounts) : Type 0 where
+  pub created : new.created ≡ old.created + (if is_create what then 1 else 0)
+  pub taken : new.taken ≡ old.taken + (if is_take what then 1 else 0)
+  pub dropped : new.dropped ≡ old.dropped + (if is_drop what then 1 else 0)
+
 -- the map, the number of Creates, the window and the counts are those of a legal and numbered window list of these names
 pub record SymbolRun (hold : ℕ) (names : List (List ℕ)) (texts : TextMap) (created : ℕ) (window : List Handle) (counts : SymbolCounts) : Type 0 where
   pub whats : List What
   pub pairs : List Held
   pub names_are : held_texts pairs ≡ names
   pub run : IsWindowRun hold [] names whats (held_handles pairs)
-  pub legal : IsLegal (by_seat 0 whats)
-  pub numbered : IsNumberedFrom 0 whats
-  pub texts_are : map_of (by_seat 0 whats) ≡ texts
-  pub created_are : count_by is_create whats ≡ created
+  pub log : OneSeatLog whats texts created
   pub window_is : window ≡ finals hold (held_handles pairs)
   pub holds : Holds texts (finals hold pairs)
   pub counted : CountsOf whats counts
   pub all_names : counts.created + counts.taken ≡ length names
   pub few_drops : counts.dropped ≤ length names
+
+-- the same, between the intern of one more name as the handle and the push of the handle into the window
+pub record NameInterned (hold : ℕ) (names : List (List ℕ)) (name : List ℕ) (h : Handle) (texts : TextMap) (created : ℕ) (window : List Handle) (counts : SymbolCounts) : Type 0 where
+  pub what : What
+  pub old_texts : TextMap
+  pub old_created : ℕ
+  pub old_counts : SymbolCounts
+  pub before : SymbolRun hold names old_texts old_created window old_counts
+  pub intern : IsCountedIntern name h what
+  pub allowed : Allows old_texts what
+  pub numbered : IsNumbered old_created what
+  pub texts_are : texts ≡ next old_texts what
+  pub created_are : created ≡ old_created + slots_taken what
+  pub counts_are : CountsOneMore old_counts what counts

@@ -1,0 +1,250 @@
+//! The interner.
+ghost use Rattle.std.specs.Prelude.{◌≡◌, ℕ, ◌-◌, ◌^◌, ◌<◌, ◌≤◌, ◌↔◌, IsTrue, List, length, Option, Some, IfOk, OnErr};
+ghost use Rattle.std.specs.Bool.{OnTrue, OnFalse};
+ghost use Rattle.intern_log.specs.declared.event.Entry.{Entry};
+ghost use Rattle.intern_log.specs.TextMap.{no_texts, entry_of, live_texts, IsLive};
+ghost use Rattle.intern_log.specs.Buckets.{longest_bucket};
+ghost use Rattle.plain_interner.specs.State.{Follows, event_of, HasNewSlot, IsOfKind, released_of, references_of};
+
+use crate::fields::{
+    Entries, Texts, add_both, entry_at, live_entry, longest, raised, references, remove_both,
+    set_entry,
+};
+use intern_log::{Entry, Handle, Kind, MAX_TEXT, PERMANENT, Released, What};
+use std::alloc::{AllocError, Global};
+use std::collections::BTreeMap;
+use std::marker::Model;
+
+/// What an intern came to.
+#[derive(Clone, Copy, Debug, PartialEq, Eq)]
+pub enum PlainInterned {
+    /// The text was not live: it has a new entry now, with this handle and count 1.
+    Created(Handle),
+    /// The text was live in a counted interner: its entry has one more hold.
+    Taken(Handle),
+    /// The text was live in a weak interner, with this handle.
+    Found(Handle),
+}
+
+/// A one-thread interner. Contracts see its kind, the live entry of each text, and how many slots
+/// it gave out.
+#[derive(Drop)]
+pub struct Plain {
+    alloc: Global,
+    kind: Kind,
+    entries: Entries,
+    texts: Texts,
+    created: u32,
+}
+
+impl Model for Plain {
+    ghost use Rattle.plain_interner.specs.State.{State, state_code};
+
+    ghost Value = { State };
+
+    ghost coded = { state_code };
+
+    ghost use Rattle.std.specs.BTreeMap.{btree_map_len};
+    ghost use Rattle.plain_interner.specs.View.{text_map, IsKept};
+
+    ghost view = { λ p. record { kind = p.kind; texts = text_map p.entries.entries; created = p.created } };
+
+    ghost invariant = { λ p. IsKept (text_map p.entries.entries) (btree_map_len p.entries) p.texts.entries p.created };
+}
+
+impl Plain {
+    /// An interner with no texts. It takes no memory.
+    pub fn new(alloc: Global, kind: Kind) -> Plain
+        ensures empty { result ≡ record { kind = kind; texts = no_texts; created = 0 } }
+    {
+        Plain {
+            alloc,
+            kind,
+            entries: BTreeMap::new(alloc),
+            texts: BTreeMap::new(alloc),
+            created: 0,
+        }
+    }
+
+    /// How the interner keeps its entries.
+    pub fn kind(&self) -> Kind
+        ensures kind { result ≡ self.now.kind }
+    {
+        self.kind
+    }
+
+    /// How many entries were ever made: the number of the next slot.
+    pub fn created(&self) -> u64
+        ensures created { result ≡ self.now.created }
+    {
+        u64::from(self.created)
+    }
+
+    /// The handle of the text, which is live from here on. Only want of memory fails, and then
+    /// nothing has changed; only a text that was not live takes memory.
+    pub fn intern(&mut self, text: &[u8]) -> Result<PlainInterned, AllocError>
+        requires short { length text.now ≤ MAX_TEXT }
+        requires room { self.old.created < 2 ^ 32 - 1 }
+        ensures follows { IfOk result (λ answer. Follows self.old (event_of text.now answer) self.new) }
+        ensures new_slot { IfOk result (HasNewSlot self.old) }
+        ensures kinds { IfOk result (IsOfKind self.old.kind) }
+        ensures err { OnErr result (self.new ≡ self.old) }
+    {
+        let Some(entry) = entry_at(&self.entries, text) else {
+            let handle = Handle {
+                slot: self.created,
+                generation: 0,
+            };
+            add_both(self.alloc, &mut self.entries, &mut self.texts, text, handle)?;
+            self.created += 1;
+            return Ok(PlainInterned::Created(handle));
+        };
+        match self.kind {
+            Kind::Counted => {
+                set_entry(&mut self.entries, text, raised(entry));
+                Ok(PlainInterned::Taken(entry.handle))
+            }
+            Kind::Weak => Ok(PlainInterned::Found(entry.handle)),
+        }
+    }
+
+    /// Takes one hold on a live handle away, in a counted interner. The entry is gone with its last
+    /// hold; a permanent one stays as it is.
+    pub fn release(&mut self, handle: Handle) -> Released
+        requires counted { self.old.kind ≡ Kind.Counted }
+        requires live { IsLive self.old.texts handle }
+        ensures follows { Follows self.old (What.Drop handle) self.new }
+        ensures answer { (text : List ℕ) (e : Entry)
+            → entry_of self.old.texts text ≡ Some e → e.handle ≡ handle → result ≡ released_of e.count }
+    {
+        let Some((text, entry)) = live_entry(&self.entries, &self.texts, handle) else {
+            unreachable!()
+        };
+        if entry.count == PERMANENT {
+            return Released::Permanent;
+        }
+        if entry.count > 1 {
+            let left = entry.count - 1;
+            set_entry(
+                &mut self.entries,
+                text,
+                Entry {
+                    handle,
+                    count: left,
+                },
+            );
+            return Released::Dropped { left };
+        }
+        remove_both(&mut self.entries, &mut self.texts, handle.slot);
+        Released::Dropped { left: 0 }
+    }
+
+    /// Takes an entry out of a weak interner. The answer is whether the handle was live; where it
+    /// was not, nothing changes.
+    pub fn kill(&mut self, handle: Handle) -> bool
+        requires weak { self.old.kind ≡ Kind.Weak }
+        ensures answer { IsTrue result ↔ IsLive self.old.texts handle }
+        ensures killed { OnTrue result (Follows self.old (What.Kill handle) self.new) }
+        ensures dead { OnFalse result (self.new ≡ self.old) }
+    {
+        if !self.is_live(handle) {
+            return false;
+        }
+        remove_both(&mut self.entries, &mut self.texts, handle.slot);
+        true
+    }
+
+    /// Whether a live entry has this handle: the test for `release`.
+    pub fn is_live(&self, handle: Handle) -> bool
+        ensures live { IsTrue result ↔ IsLive self.now.texts handle }
+    {
+        live_entry(&self.entries, &self.texts, handle).is_some()
+    }
+
+    /// How many texts are live.
+    pub fn live(&self) -> u32
+        ensures live { result ≡ length (live_texts self.now.texts) }
+    {
+        self.entries.len() as u32
+    }
+
+    /// How many holds the entries count together; permanent entries count none.
+    pub fn references(&self) -> u64
+        ensures references { result ≡ references_of self.now.texts }
+    {
+        references(&self.entries)
+    }
+
+    /// The greatest number of live texts in one bucket of a row of 2^level, or 0 where no text is
+    /// live. It takes no memory, and the time of one pass over the texts for each of them.
+    pub fn longest(&self, level: u8) -> u32
+        requires level { level ≤ 20 }
+        ensures longest { result ≡ longest_bucket level (live_texts self.now.texts) }
+    {
+        longest(level, &self.entries)
+    }
+}
+
+#[cfg(test)]
+mod tests {
+    use super::*;
+    use std::test::Fail;
+
+    #[test]
+    fn counted_texts_go_with_their_last_hold(rt: HostRuntime) -> Result<(), Fail> {
+        let mut plain = Plain::new(rt.alloc(), Kind::Counted);
+        let first = Handle {
+            slot: 0,
+            generation: 0,
+        };
+        let second = Handle {
+            slot: 1,
+            generation: 0,
+        };
+        assert_eq!(rt; plain.intern(b"a")?, PlainInterned::Created(first));
+        assert_eq!(rt; plain.intern(b"a")?, PlainInterned::Taken(first));
+        assert_eq!(rt; plain.references(), 2);
+        assert!(rt; plain.is_live(first));
+        assert_eq!(rt; plain.release(first), Released::Dropped { left: 1 });
+        assert!(rt; plain.is_live(first));
+        assert_eq!(rt; plain.release(first), Released::Dropped { left: 0 });
+        assert!(rt; !plain.is_live(first));
+        assert_eq!(rt; plain.intern(b"a")?, PlainInterned::Created(second));
+        assert_eq!(rt; plain.created(), 2);
+        Ok(())
+    }
+
+    #[test]
+    fn weak_texts_stay_until_they_are_killed(rt: HostRuntime) -> Result<(), Fail> {
+        let mut plain = Plain::new(rt.alloc(), Kind::Weak);
+        let first = Handle {
+            slot: 0,
+            generation: 0,
+        };
+        let second = Handle {
+            slot: 1,
+            generation: 0,
+        };
+        assert_eq!(rt; plain.kind(), Kind::Weak);
+        assert_eq!(rt; plain.intern(b"a")?, PlainInterned::Created(first));
+        assert_eq!(rt; plain.intern(b"a")?, PlainInterned::Found(first));
+        assert!(rt; plain.kill(first));
+        assert!(rt; !plain.kill(first));
+        assert_eq!(rt; plain.intern(b"a")?, PlainInterned::Created(second));
+        Ok(())
+    }
+
+    #[test]
+    fn live_texts_are_counted(rt: HostRuntime) -> Result<(), Fail> {
+        let mut plain = Plain::new(rt.alloc(), Kind::Counted);
+        assert_eq!(rt; plain.longest(0), 0);
+        for text in [b"Aa".as_slice(), b"BB", b"a", b"Aa"] {
+            let _ = plain.intern(text)?;
+        }
+        assert_eq!(rt; plain.live(), 3);
+        assert_eq!(rt; plain.references(), 4);
+        assert_eq!(rt; plain.longest(0), 3);
+        assert_eq!(rt; plain.longest(20), 2);
+        Ok(())
+    }
+}
