@@ -3,8 +3,11 @@ pub mod Cuts
 pub mod Scans
 pub mod Standing
 pub mod ReportLemmas
+pub mod Written
 pub mod FinalItems
 pub mod Holds
+pub mod LiveTexts
+pub mod References
 pub mod Pushes
 pub mod SymbolSteps
 pub mod SymbolNames

@@ -3,4 +3,7 @@
 
 pub mod name_scan;
 mod names;
+pub mod outcome;
+mod reading;
 pub mod table_report;
+mod writing;
