@@ -8,6 +8,7 @@ pub mod FinalItems
 pub mod Holds
 pub mod LiveTexts
 pub mod References
+pub mod Settling
 pub mod Pushes
 pub mod SymbolSteps
 pub mod SymbolNames

@@ -5,5 +5,6 @@ pub mod name_scan;
 mod names;
 pub mod outcome;
 mod reading;
+pub mod settle;
 pub mod table_report;
 mod writing;
