@@ -11,8 +11,8 @@ use Rattle.std.specs.FinMap as finite
 use Rattle.intern_log.specs.declared.event.Entry.{Entry}
 use Rattle.intern_log.specs.declared.event.What.{What}
 use Rattle.intern_log.specs.declared.event.What.TheVariants.{Create, Take, Found, Drop, Perm, Kill, Claim, Free, Open, Close, Grace, Lock, Unlock, Unlink, ResizeTaken, ResizeGiven, Level}
-use Rattle.intern_log.specs.TextMap.{TextMap, no_texts, entry_of, put_at, altered, alter, at_handle}
-use Rattle.intern_log.specs.Log.{next, entry_after, new_entry, raised, lowered, made_permanent}
+use Rattle.intern_log.specs.TextMap.{TextMap, entry_of, put_at, altered, alter, at_handle}
+use Rattle.intern_log.specs.Log.{next, entry_after, new_entry, raised, lowered}
 
 -- the order of bytes ties exactly the equal texts
 tied_is : (q t : List ℕ) → eq_by_cmp (slice_cmp nat_cmp) q t ≡ bytes_eq q t

@@ -1,5 +1,5 @@
 -- Two live texts never have one handle.
-use Rattle.std.proofs.Common.{◌≡◌, ℕ, Bool, true, false, cond, List, [], ◌∷◌, ◌++◌, Option, Some, None, ◌-◌, ◌==◌, nat_le, ◌&&◌, ◌⊎◌, inl, inr, refl, sym, ap, subst, ◌∙◌}
+use Rattle.std.proofs.Common.{◌≡◌, ℕ, Bool, true, false, cond, List, [], ◌∷◌, Option, Some, None, ◌-◌, ◌==◌, nat_le, ◌&&◌, ◌⊎◌, inl, inr, refl, sym, ap, subst, ◌∙◌}
 use Rattle.std.specs.Bool.{Decides}
 use Rattle.std.specs.Str.{bytes_eq}
 use Rattle.std.specs.Option.{option_map, option_and_then}
@@ -14,7 +14,7 @@ use Rattle.intern_log.specs.declared.event.Event.{Event}
 use Rattle.intern_log.specs.declared.event.What.{What}
 use Rattle.intern_log.specs.declared.event.What.TheVariants.{Create, Take, Found, Drop, Perm, Kill, Claim, Free, Open, Close, Grace, Lock, Unlock, Unlink, ResizeTaken, ResizeGiven, Level}
 use Rattle.intern_log.specs.declared.event.TheConstants.{PERMANENT}
-use Rattle.intern_log.specs.TextMap.{TextMap, no_texts, entry_of, handle_eq, HasHandle, IsLive, at_handle}
+use Rattle.intern_log.specs.TextMap.{TextMap, no_texts, entry_of, handle_eq, HasHandle, at_handle}
 use Rattle.intern_log.specs.Log.{next, entry_after, new_entry, raised, lowered, made_permanent, Allows, map_after, map_of, IsLegalFrom, IsLegal, HandlesDiffer}
 use Rattle.intern_log.proofs.Entries.{entry_of-next}
 
@@ -134,9 +134,10 @@ same_as_itself a =
 
 -- two handles are the same where the test says so
 pub handle_eq-Decides : (a b : Handle) → Decides (handle_eq a b) (a ≡ b)
-handle_eq-Decides a b =
-    ((λ is. let parts = both_hold (a.slot == b.slot) (a.generation == b.generation) is in
-       let slots = (Decides-eqb a.slot b.slot).0 parts.0 in
-       let generations = (Decides-eqb a.generation b.generation).0 parts.1 in
-       λ i. record { slot = slots i; generation = generations i }),
-     (λ same. subst (λ k. handle_eq a k ≡ true) same (same_as_itself a)))
+handle_eq-Decides a b = (
+  (λ is. let parts = both_hold (a.slot == b.slot) (a.generation == b.generation) is in
+      let slots = (Decides-eqb a.slot b.slot).0 parts.0 in
+      let generations = (Decides-eqb a.generation b.generation).0 parts.1 in
+      λ i. record { slot = slots i; generation = generations i }),
+  (λ same. subst (λ k. handle_eq a k ≡ true) same (same_as_itself a)),
+)

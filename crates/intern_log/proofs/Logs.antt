@@ -1,15 +1,13 @@
 -- Logs by pieces: what holds of two lists of events, one after the other, and of one more event.
-use Rattle.std.proofs.Common.{◌≡◌, ℕ, Bool, true, false, List, [], ◌∷◌, ◌++◌, ◌||◌, ◌↔◌, map, filter, refl, sym, ap, subst, ◌∙◌}
-use Rattle.std.specs.List.{list_any}
+use Rattle.std.proofs.Common.{◌≡◌, ℕ, Bool, true, false, List, [], ◌∷◌, ◌++◌, ◌||◌, ◌↔◌, refl, sym, ◌∙◌}
 use Rattle.std.proofs.lemmas.List.{map-append}
 use Rattle.std.proofs.lemmas.List.Elements.{filter-append}
 use Rattle.std.proofs.lemmas.List.Folds.{list_any-append}
-use Rattle.intern_log.specs.declared.event.Handle.{Handle}
 use Rattle.intern_log.specs.declared.event.Event.{Event}
 use Rattle.intern_log.specs.declared.event.What.{What}
 use Rattle.intern_log.specs.TextMap.{TextMap, no_texts}
-use Rattle.intern_log.specs.Log.{next, Allows, map_after, map_of, IsLegalFrom, IsLegal, creates, IsFresh}
-use Rattle.intern_log.specs.Own.{mine, is_visible, is_among}
+use Rattle.intern_log.specs.Log.{next, Allows, map_after, map_of, IsLegalFrom, IsLegal, IsFresh}
+use Rattle.intern_log.specs.Own.{mine}
 use Rattle.intern_log.specs.Window.{by_seat}
 
 pub map_after-append : (m : TextMap) (xs ys : List Event) → map_after m (xs ++ ys) ≡ map_after (map_after m xs) ys

@@ -1,15 +1,15 @@
 -- Window lists and literal lists grow by one name at the end, and at most one of them is legal and numbered.
-use Rattle.std.proofs.Common.{◌≡◌, ℕ, ◌+◌, Bool, true, false, List, [], ◌∷◌, ◌++◌, Option, Some, None, ◌⊎◌, inl, inr, refl, sym, ap, subst, ◌∙◌, append-nil, append_assoc, add-zero, count_by, cond, arith}
+use Rattle.std.proofs.Common.{◌≡◌, ℕ, ◌+◌, List, [], ◌∷◌, ◌++◌, Some, None, inl, inr, refl, sym, ap, subst, ◌∙◌, append-nil, append_assoc, add-zero, count_by, cond, arith}
 use Rattle.std.proofs.lemmas.List.Sums.{sum_by-cons}
 use Rattle.intern_log.specs.declared.event.Handle.{Handle}
 use Rattle.intern_log.specs.declared.event.Entry.{Entry}
 use Rattle.intern_log.specs.declared.event.Event.{Event}
 use Rattle.intern_log.specs.declared.event.What.{What}
-use Rattle.intern_log.specs.declared.event.What.TheVariants.{Create, Take, Found, Drop, Kill}
-use Rattle.intern_log.specs.TextMap.{TextMap, no_texts, entry_of, HasHandle}
+use Rattle.intern_log.specs.declared.event.What.TheVariants.{Create, Take, Found}
+use Rattle.intern_log.specs.TextMap.{TextMap, no_texts, HasHandle}
 use Rattle.intern_log.specs.Log.{next, Allows, map_after, IsLegalFrom, IsLegal}
 use Rattle.intern_log.specs.Counts.{is_create}
-use Rattle.intern_log.specs.Window.{by_seat, IsInternBy, IsCountedIntern, IsWeakIntern, let_go, IsWindowRun, IsWindowList, IsLiteralList}
+use Rattle.intern_log.specs.Window.{by_seat, IsInternBy, IsCountedIntern, IsWeakIntern, let_go, IsWindowRun, IsLiteralList}
 use Rattle.intern_log.specs.Finals.{finals}
 use Rattle.intern_log.specs.PlainLogs.{slot_handle, slots_taken, IsNumbered, IsNumberedFrom, kills_of, IsPlainSymbolLog, IsPlainStringLog}
 use Rattle.intern_log.proofs.Logs.{by_seat-append, IsLegalFrom-prefix, IsLegalFrom-rest}

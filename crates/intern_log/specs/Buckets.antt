@@ -1,5 +1,5 @@
 -- Buckets of texts by their hash, and the level at which a table of them settles.
-use Rattle.std.specs.Prelude.{ℕ, ◌+◌, ◌-◌, ◌*◌, ◌%◌, ◌^◌, Bool, if◌then◌else◌, ◌==◌, nat_le, zero, suc, max, List, [], ◌∷◌, count_by, map, fold}
+use Rattle.std.specs.Prelude.{ℕ, ◌+◌, ◌-◌, ◌*◌, ◌%◌, ◌^◌, if◌then◌else◌, ◌==◌, nat_le, zero, suc, max, List, count_by, fold}
 use Rattle.text_words.specs.Hash.{hash31}
 
 -- the bucket of a text in a row of 2^level buckets
