@@ -1,22 +1,20 @@
 -- What the steps of an interner come to, as events.
-use Rattle.std.proofs.Common.{◌≡◌, ◌≢◌, ℕ, ◌+◌, ◌-◌, ◌<◌, ◌≤◌, Bool, true, false, cond, ◌&&◌, ◌==◌, List, Option, Some, None, IsSome, IsTrue, ◌↔◌, is_some, refl, sym, ap, subst, ◌∙◌, arith, add-zero}
-use Rattle.std.proofs.lemmas.Grind.{common_steps}
+use Rattle.std.proofs.Common.{◌≡◌, ◌≢◌, ℕ, ◌+◌, ◌-◌, ◌<◌, ◌≤◌, Bool, true, false, cond, List, Option, Some, None, IsTrue, ◌↔◌, is_some, refl, sym, ap, ◌∙◌, arith, add-zero}
 use Rattle.std.proofs.lemmas.Bool.Decides.{nat_tests}
 use Rattle.std.specs.Bool.{Decides}
 use Rattle.std.specs.Str.{bytes_eq}
 use Rattle.std.proofs.lemmas.Slice.Eq.{bytes_eq-Decides}
-use Rattle.std.specs.Option.{option_map, option_and_then, IfSome, IfNone}
+use Rattle.std.specs.Option.{option_and_then, IfSome, IfNone}
 use Rattle.std.specs.declared.vec.Vec.{Vec}
 use Rattle.intern_log.specs.declared.event.Handle.{Handle}
 use Rattle.intern_log.specs.declared.event.Entry.{Entry}
 use Rattle.intern_log.specs.declared.event.Kind.{Kind}
-use Rattle.intern_log.specs.declared.event.What.{What}
-use Rattle.intern_log.specs.declared.event.What.TheVariants.{Create, Take, Found, Drop, Kill}
+use Rattle.intern_log.specs.declared.event.What.TheVariants.{Create, Drop, Kill}
 use Rattle.intern_log.specs.declared.event.TheConstants.{PERMANENT}
 use Rattle.intern_log.specs.TextMap.{TextMap, entry_of, put_at, alter, at_handle, handle_eq, IsLive}
 use Rattle.intern_log.specs.Log.{new_entry, raised, lowered}
 use Rattle.intern_log.proofs.Entries.{entry_of-put_at, entry_of-alter}
-use Rattle.plain_interner.specs.State.{State, Follows}
+use Rattle.plain_interner.specs.State.{Follows}
 use Rattle.plain_interner.specs.View.{text_at, IsKept}
 use Rattle.plain_interner.proofs.Maps.{same_texts}
 use Rattle.plain_interner.proofs.Kept.{same_slot}

@@ -9,6 +9,10 @@ use Rattle.std.specs.declared.vec.Vec.{Vec}
 use Rattle.intern_log.specs.declared.event.Entry.{Entry}
 use Rattle.intern_log.specs.TextMap.{TextMap, entry_of}
 
+-- the text is live, and its entry has this slot
+abbrev pub HasSlot : TextMap → ℕ → List ℕ → Type 0
+HasSlot texts slot text = (e : Entry) × (entry_of texts text ≡ Some e) × (e.handle.slot ≡ slot)
+
 module _ {Z : Type 0} where
   -- the live entry of each text, from the entries in order
   unfoldable pub text_map : List (Vec ℕ Z × Entry) → TextMap
@@ -25,8 +29,9 @@ module _ {Z : Type 0} where
     pub given : e.handle.slot < created
     pub tied : text_at slots e.handle.slot ≡ Some text
 
-  -- the two maps fit together: each entry is known, and there are no more entries than slots were given out
+  -- the two maps fit together: each entry is known, each text that is kept under a slot is that of a live entry, and there are no more entries than slots were given out
   pub record IsKept (texts : TextMap) (entries : ℕ) (slots : List (ℕ × Vec ℕ Z)) (created : ℕ) : Type 0 where
     pub known : (text : List ℕ) (e : Entry) → entry_of texts text ≡ Some e → IsKnown slots created text e
+    pub used : (slot : ℕ) (text : List ℕ) → text_at slots slot ≡ Some text → HasSlot texts slot text
     pub fits : entries ≤ created
     pub small : created < 2 ^ 32

@@ -1,5 +1,5 @@
 //! The two maps of an interner, one step at a time.
-ghost use Rattle.std.specs.Prelude.{◌≡◌, ◌≢◌, ℕ, ◌+◌, ◌-◌, ◌^◌, ◌<◌, ◌≤◌, ◌==◌, List, length, Option, Some, None, IsSome, IfSome, IfNone, OnOk, OnErr, is_ok, if◌then◌else◌, map, count_by};
+ghost use Rattle.std.specs.Prelude.{◌≡◌, ◌≢◌, ℕ, ◌+◌, ◌^◌, ◌<◌, ◌≤◌, ◌==◌, List, IsSome, IfSome, IfNone, OnOk, OnErr, is_ok, if◌then◌else◌, map, count_by};
 ghost use Rattle.std.specs.Option.{option_map};
 ghost use Rattle.std.specs.BTreeMap.{btree_map_len, keys};
 ghost use Rattle.intern_log.specs.TextMap.{entry_of, put_at, live_texts};
@@ -75,6 +75,7 @@ pub(crate) fn text_of(texts: &Texts, slot: u32) -> Option<&[u8]>
 /// Puts in the text of a slot.
 pub(crate) fn add_text(texts: &mut Texts, slot: u32, text: Vec<u8>) -> Result<(), AllocError>
     ensures ok { OnOk result (text_at texts.new.entries slot ≡ Some text.items) }
+    ensures err { OnErr result (text_at texts.new.entries slot ≡ text_at texts.old.entries slot) }
     ensures others { (other : ℕ) → other ≢ slot → text_at texts.new.entries other ≡ text_at texts.old.entries other }
 {
     texts.insert(slot, text)?;
@@ -84,6 +85,7 @@ pub(crate) fn add_text(texts: &mut Texts, slot: u32, text: Vec<u8>) -> Result<()
 /// Takes out the text of a slot.
 pub(crate) fn remove_text(texts: &mut Texts, slot: u32) -> Option<Vec<u8>>
     ensures text { option_map (λ text. text.items) result ≡ text_at texts.old.entries slot }
+    ensures gone { text_at texts.new.entries slot ≡ None }
     ensures others { (other : ℕ) → other ≢ slot → text_at texts.new.entries other ≡ text_at texts.old.entries other }
 {
     texts.remove(&slot)
@@ -97,9 +99,11 @@ pub(crate) fn add_both(
     text: &[u8],
     handle: Handle,
 ) -> Result<(), AllocError>
+    requires { text_at texts.old.entries handle.slot ≡ None }
     ensures ok { OnOk result (text_map entries.new.entries ≡ put_at (text_map entries.old.entries) text.now (Some (new_entry handle))) }
     ensures slot { OnOk result (text_at texts.new.entries handle.slot ≡ Some text.now) }
     ensures err { OnErr result (text_map entries.new.entries ≡ text_map entries.old.entries) }
+    ensures free { OnErr result (text_at texts.new.entries handle.slot ≡ None) }
     ensures len { btree_map_len entries.new ≤ btree_map_len entries.old + (if is_ok result then 1 else 0) }
     ensures others { (other : ℕ) → other ≢ handle.slot → text_at texts.new.entries other ≡ text_at texts.old.entries other }
 {
@@ -120,6 +124,7 @@ pub(crate) fn remove_both(entries: &mut Entries, texts: &mut Texts, slot: u32)
     ensures slot { (text : List ℕ) → text_at texts.old.entries slot ≡ Some text
         → text_map entries.new.entries ≡ put_at (text_map entries.old.entries) text None }
     ensures len { btree_map_len entries.new ≤ btree_map_len entries.old }
+    ensures gone { text_at texts.new.entries slot ≡ None }
     ensures others { (other : ℕ) → other ≢ slot → text_at texts.new.entries other ≡ text_at texts.old.entries other }
 {
     if let Some(text) = remove_text(texts, slot) {
@@ -151,13 +156,12 @@ pub(crate) fn live_entry<'a>(
 pub(crate) fn raised(entry: Entry) -> Entry
     ensures { result ≡ log.raised entry }
 {
-    if entry.count < PERMANENT {
-        Entry {
-            handle: entry.handle,
-            count: entry.count + 1,
-        }
-    } else {
-        entry
+    if entry.count == PERMANENT {
+        return entry;
+    }
+    Entry {
+        handle: entry.handle,
+        count: entry.count + 1,
     }
 }
 

@@ -1,5 +1,5 @@
 //! The interner.
-ghost use Rattle.std.specs.Prelude.{◌≡◌, ℕ, ◌-◌, ◌^◌, ◌<◌, ◌≤◌, ◌↔◌, IsTrue, List, length, Option, Some, IfOk, OnErr};
+ghost use Rattle.std.specs.Prelude.{◌≡◌, ℕ, ◌-◌, ◌^◌, ◌<◌, ◌≤◌, ◌↔◌, IsTrue, List, length, IfOk, OnErr};
 ghost use Rattle.std.specs.Bool.{OnTrue, OnFalse};
 ghost use Rattle.intern_log.specs.declared.event.Entry.{Entry};
 ghost use Rattle.intern_log.specs.TextMap.{no_texts, entry_of, live_texts, IsLive};
@@ -80,7 +80,8 @@ impl Plain {
         u64::from(self.created)
     }
 
-    /// The handle of the text, which is live from here on. Only want of memory fails, and then
+    /// The handle of the text, which is live from here on. It asks for at most 65,535 bytes, and that
+    /// fewer than 2^32 - 1 entries were made before (`created`). Only want of memory fails, and then
     /// nothing has changed; only a text that was not live takes memory.
     pub fn intern(&mut self, text: &[u8]) -> Result<PlainInterned, AllocError>
         requires short { length text.now ≤ MAX_TEXT }
@@ -238,9 +239,10 @@ mod tests {
     fn live_texts_are_counted(rt: HostRuntime) -> Result<(), Fail> {
         let mut plain = Plain::new(rt.alloc(), Kind::Counted);
         assert_eq!(rt; plain.longest(0), 0);
-        for text in [b"Aa".as_slice(), b"BB", b"a", b"Aa"] {
-            let _ = plain.intern(text)?;
-        }
+        let _ = plain.intern(b"Aa")?;
+        let _ = plain.intern(b"BB")?;
+        let _ = plain.intern(b"a")?;
+        let _ = plain.intern(b"Aa")?;
         assert_eq!(rt; plain.live(), 3);
         assert_eq!(rt; plain.references(), 4);
         assert_eq!(rt; plain.longest(0), 3);

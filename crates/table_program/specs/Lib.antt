@@ -8,5 +8,9 @@ pub mod Holding
 pub mod OneSeatLog
 pub mod SymbolRun
 pub mod Symbols
+pub mod StringRun
+pub mod MadeEntries
 pub mod Notes
 pub mod Writing
+pub mod Words
+pub mod PlainRun

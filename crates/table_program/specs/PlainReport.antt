@@ -2,6 +2,8 @@
 use Rattle.std.specs.Prelude.{◌≡◌, ℕ, ◌+◌, ◌^◌, List, [], ◌∷◌, length, sum_by}
 use Rattle.std.specs.List.{flat_map}
 use Rattle.intern_log.specs.declared.event.Event.{Event}
+use Rattle.intern_log.specs.TextMap.{TextMap, live_texts}
+use Rattle.plain_interner.specs.State.{references_of}
 use Rattle.intern_log.specs.Buckets.{settle_level, longest_bucket}
 use Rattle.intern_log.specs.Finals.{finals, distinct_texts}
 use Rattle.intern_log.specs.Counts.{events_in, is_create, is_take, is_found, is_drop, is_kill}
@@ -14,11 +16,11 @@ use Rattle.table_program.specs.FileTexts.{names_of, literals_of}
 use Rattle.table_program.specs.Report.{report_lines}
 
 -- how many texts a bucket holds on the average where a table settles
-abbrev pub SYMBOL_LOAD : ℕ
-SYMBOL_LOAD = 8
+abbrev pub symbol_load : ℕ
+symbol_load = 8
 
-abbrev pub STRING_LOAD : ℕ
-STRING_LOAD = 2
+abbrev pub string_load : ℕ
+string_load = 2
 
 -- the last `hold` names of each file, and the last `hold` literals
 abbrev pub final_names : List (List ℕ) → ℕ → List (List ℕ)
@@ -43,9 +45,9 @@ string_counts log = record { created = events_in is_create log; found = events_i
 abbrev pub report_of : List (List ℕ) → ℕ → ℕ → ℕ → List Event → List Event → Report
 report_of files hold min_level max_level symbol_log string_log = record {
   names = sum_by (λ file. length (names_of file)) files;
-  symbols = settled SYMBOL_LOAD min_level max_level (distinct_texts (final_names files hold)) (length (final_names files hold));
+  symbols = settled symbol_load min_level max_level (distinct_texts (final_names files hold)) (length (final_names files hold));
   literals = sum_by (λ file. length (literals_of file)) files;
-  strings = settled STRING_LOAD min_level max_level (distinct_texts (final_literals files hold)) 0;
+  strings = settled string_load min_level max_level (distinct_texts (final_literals files hold)) 0;
   symbol_log = symbol_counts symbol_log;
   string_log = string_counts string_log;
 }
@@ -55,19 +57,27 @@ abbrev pub report : List (List ℕ) → ℕ → ℕ → ℕ → List Event → L
 report files hold min_level max_level symbol_log string_log = report_lines (report_of files hold min_level max_level symbol_log string_log)
 
 -- what `plain` takes in place of options: how many handles are held, and the least and the greatest level
-abbrev pub PLAIN_HOLD : ℕ
-PLAIN_HOLD = 16
+abbrev pub plain_hold : ℕ
+plain_hold = 16
 
-abbrev pub PLAIN_MIN_LEVEL : ℕ
-PLAIN_MIN_LEVEL = 3
+abbrev pub plain_min_level : ℕ
+plain_min_level = 3
 
-abbrev pub PLAIN_MAX_LEVEL : ℕ
-PLAIN_MAX_LEVEL = 16
+abbrev pub plain_max_level : ℕ
+plain_max_level = 16
+
+-- the map and the counts are those of the plain log of the names, and the last `hold` names are live and referred to
+pub record IsSymbolsOf (hold : ℕ) (names : List (List ℕ)) (texts : TextMap) (counts : SymbolCounts) : Type 0 where
+  pub log : List Event
+  pub is_log : IsPlainSymbolLog hold names log
+  pub counts_are : symbol_counts log ≡ counts
+  pub live_are : live_texts texts ≡ distinct_texts (finals hold names)
+  pub references_are : references_of texts ≡ length (finals hold names)
 
 -- the text is the report of the file's bytes and its plain logs
 pub record IsPlainReport (bytes text : List ℕ) : Type 0 where
   pub symbol_log : List Event
   pub string_log : List Event
-  pub symbols : IsPlainSymbolLog PLAIN_HOLD (names_of bytes) symbol_log
-  pub strings : IsPlainStringLog PLAIN_HOLD (literals_of bytes) string_log
-  pub is_report : text ≡ report (bytes ∷ []) PLAIN_HOLD PLAIN_MIN_LEVEL PLAIN_MAX_LEVEL symbol_log string_log
+  pub symbols : IsPlainSymbolLog plain_hold (names_of bytes) symbol_log
+  pub strings : IsPlainStringLog plain_hold (literals_of bytes) string_log
+  pub is_report : text ≡ report (bytes ∷ []) plain_hold plain_min_level plain_max_level symbol_log string_log

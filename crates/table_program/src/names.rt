@@ -4,6 +4,7 @@ ghost use Rattle.intern_log.specs.declared.text.TheConstants.{MAX_TEXT};
 ghost use Rattle.table_program.specs.declared.name_scan.Token.{Token};
 ghost use Rattle.table_program.specs.FileTexts.{names_among};
 ghost use Rattle.table_program.specs.Places.{IsWithin};
+ghost use Rattle.table_program.specs.PlainReport.{IsSymbolsOf};
 ghost use Rattle.table_program.specs.SymbolRun.{SymbolRun, NameInterned, IsSymbolWindow, CountsFit};
 ghost use Rattle.table_program.specs.Symbols.{InternsName};
 
@@ -114,11 +115,14 @@ fn hold_token(
     }
 }
 
-/// The symbols of a file: the interner after its last name, the handles that are held at the end, and
-/// how often each answer came.
+/// The symbols of a file: what is left of its names after all were interned and the last few are held.
+#[derive(Drop)]
 pub(crate) struct Symbols {
+    /// The interner, in which the names that are held are live.
     pub plain: Plain,
-    pub window: HeapCircularBuffer<Handle>,
+    /// How many names the file has, each as often as it stands there.
+    pub names: u64,
+    /// How often each answer came, and how many handles were dropped.
     pub counts: SymbolCounts,
 }
 
@@ -134,7 +138,8 @@ pub(crate) fn intern_names(
     requires within { All (IsWithin bytes.now) tokens.now }
     requires short { length bytes.now ≤ MAX_TEXT }
     requires few { length tokens.now < 2 ^ 32 - 1 }
-    ensures run { IfOk result (λ symbols. SymbolRun hold (names_among bytes.now tokens.now) symbols.plain.texts symbols.plain.created symbols.window.items symbols.counts) }
+    ensures symbols { IfOk result (λ symbols. IsSymbolsOf hold (names_among bytes.now tokens.now) symbols.plain.texts symbols.counts) }
+    ensures names { IfOk result (λ symbols. symbols.names ≡ length (names_among bytes.now tokens.now)) }
 {
     let mut plain = Plain::new(alloc, Kind::Counted);
     let mut window = HeapCircularBuffer::with_capacity(alloc, hold)?;
@@ -148,7 +153,7 @@ pub(crate) fn intern_names(
     }
     Ok(Symbols {
         plain,
-        window,
+        names: counts.created + counts.taken,
         counts,
     })
 }

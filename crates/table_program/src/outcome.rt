@@ -1,4 +1,4 @@
-ghost use Rattle.std.specs.Prelude.{◌≡◌, ◌+◌, ◌≤◌, ◌++◌, length, drop, codes, decimal};
+ghost use Rattle.std.specs.Prelude.{◌≡◌, ◌+◌, ◌<◌, ◌≤◌, ◌++◌, length, drop, codes, decimal};
 ghost use Rattle.table_program.specs.Notes.{limit_word, plain_text, note_text, IsNoteOf};
 
 use itoa::Buffer;
@@ -10,6 +10,54 @@ pub struct Outcome {
     pub status: u8,
     /// What there is to say beside the status, of the kind that goes with it.
     pub note: Note,
+}
+
+impl Outcome {
+    /// Done: the input was read to its end, and everything was written.
+    pub const DONE: Outcome = Outcome {
+        status: 0,
+        note: Note::Nothing,
+    };
+
+    /// The words are none that the program takes.
+    pub const USAGE: Outcome = Outcome {
+        status: 1,
+        note: Note::Nothing,
+    };
+
+    /// The output took no more.
+    pub const WRITE_FAULT: Outcome = Outcome {
+        status: 3,
+        note: Note::Nothing,
+    };
+
+    /// There was no memory.
+    pub const NO_MEMORY: Outcome = Outcome {
+        status: 6,
+        note: Note::Nothing,
+    };
+
+    /// The file of that number, from 1, could not be read.
+    pub fn read_fault(number: u32) -> Outcome
+        ensures status { result.status ≡ 2 }
+        ensures note { result.note ≡ Note.File number }
+    {
+        Outcome {
+            status: 2,
+            note: Note::File { number },
+        }
+    }
+
+    /// The input passes a limit by this value.
+    pub fn over_limit(which: Limit, value: u64) -> Outcome
+        ensures status { result.status ≡ 4 }
+        ensures note { result.note ≡ Note.Limit which value }
+    {
+        Outcome {
+            status: 4,
+            note: Note::Limit { which, value },
+        }
+    }
 }
 
 /// What there is to say of a run beside its status.
@@ -59,7 +107,8 @@ pub enum Limit {
 impl Limit {
     // How the line that tells of the limit begins, before the value.
     fn opening(self) -> &'static [u8]
-        ensures { result.now ≡ codes "limit: " ++ limit_word self ++ codes " " }
+        ensures words { result.now ≡ codes "limit: " ++ limit_word self ++ codes " " }
+        ensures short { length result.now ≤ 20 }
     {
         match self {
             Limit::References => b"limit: references ",
@@ -83,6 +132,7 @@ pub fn note_line(status: u8, note: &Note, out: &mut [u8]) -> usize
     ensures stored { let line = note_text status note.now in
         out.new ≡ line ++ drop (length line) out.old }
     ensures len { result ≡ length (note_text status note.now) }
+    ensures short { result < 64 }
 {
     match note {
         Note::Nothing => put(out, plain_line(status)),
@@ -95,7 +145,8 @@ pub fn note_line(status: u8, note: &Note, out: &mut [u8]) -> usize
 
 // The line of a status that has no note beside it.
 fn plain_line(status: u8) -> &'static [u8]
-    ensures { result.now ≡ plain_text status }
+    ensures words { result.now ≡ plain_text status }
+    ensures short { length result.now < 20 }
 {
     match status {
         1 => b"usage",
@@ -123,6 +174,7 @@ fn put_numbered(out: &mut [u8], opening: &[u8], number: u64) -> usize
     ensures stored { let line = opening.now ++ decimal number in
         out.new ≡ line ++ drop (length line) out.old }
     ensures len { result ≡ length (opening.now ++ decimal number) }
+    ensures short { result ≤ length opening.now + 20 }
 {
     let at = put(out, opening);
     let mut buffer = Buffer::new();

@@ -13,7 +13,7 @@ struct OneFile {
     rest: &'static [u8],
     step: usize,
     fails_at: Option<usize>,
-    open: bool,
+    opened: bool,
     faults: u64,
 }
 
@@ -24,7 +24,7 @@ impl OneFile {
             rest: text,
             step,
             fails_at,
-            open: false,
+            opened: false,
             faults: 0,
         }
     }
@@ -37,19 +37,19 @@ impl Files for OneFile {
 
     ghost rest = { λ _. None };
 
-    ghost is_open = { λ file. file.open };
+    ghost is_open = { λ file. file.opened };
 
     ghost faults = { λ file _. file.faults };
 
     fn open_file(&mut self, _name: &str) -> Opened {
         self.rest = self.text;
-        self.open = true;
+        self.opened = true;
         Opened::Ready
     }
 
     fn read_some(&mut self, buf: &mut [u8]) -> Got {
         if self.fails_at == Some(self.rest.len()) {
-            self.open = false;
+            self.opened = false;
             self.faults = self.faults.saturating_add(1);
             return Got::Failed;
         }

@@ -1,4 +1,4 @@
-use Rattle.std.proofs.Common.{◌≡◌, ℕ, ◌+◌, ◌==◌, Bool, cond, List, map, count_by, sym, ap, ◌∙◌}
+use Rattle.std.proofs.Common.{◌≡◌, ◌+◌, ◌==◌, Bool, cond, List, map, count_by, sym, ap, ◌∙◌}
 use Rattle.std.proofs.lemmas.List.Folds.{fold-map}
 use Rattle.std.specs.BTreeMap.{keys}
 use Rattle.intern_log.specs.Buckets.{bucket_of}

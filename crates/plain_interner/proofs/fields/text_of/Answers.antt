@@ -1,4 +1,4 @@
-use Rattle.std.proofs.Common.{rules, arith}
+use Rattle.std.proofs.Common.{arith}
 use Rattle.std.proofs.lemmas.Grind.{common_steps}
 use Rattle.plain_interner.specs.View.{text_at}
 use Rattle.plain_interner.proofs.fields.text_of.Goals as goal

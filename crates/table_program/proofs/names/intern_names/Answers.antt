@@ -1,10 +1,11 @@
-use Rattle.std.proofs.Common.{◌≡◌, ℕ, ◌+◌, List, arith, refl, sym, subst, ◌∙◌, take, length-take}
+use Rattle.std.proofs.Common.{◌≡◌, ℕ, ◌+◌, List, arith, refl, sym, subst, ◌∙◌, take, length-take, take_all}
 use Rattle.std.proofs.lemmas.List.{take_more}
 use Rattle.table_program.specs.declared.name_scan.Token.{Token}
 use Rattle.table_program.specs.FileTexts.{names_among}
 use Rattle.table_program.specs.SymbolRun.{SymbolRun}
 use Rattle.table_program.specs.Symbols.{NamesSoFar}
 use Rattle.table_program.proofs.SymbolNames.{names_begin, created_few}
+use Rattle.table_program.proofs.SymbolTotals.{symbols_of}
 use Rattle.table_program.proofs.names.intern_names.Goals as goal
 
 pub loop-token-init : goal.loop-token-init
@@ -30,3 +31,14 @@ loop-token-preserved c = record {
       let run_of : List Token → Type 0 = λ found. SymbolRun c.args.hold (names_among c.args.bytes.now found) c.hold_token.new.plain.texts c.hold_token.new.plain.created c.hold_token.new.window.items c.hold_token.new.counts in
       subst run_of (sym (take_more all c.loop-token.token-index _ c.loop-token-test.true)) next;
 }
+
+pub overflow_add-result : goal.overflow_add-result
+overflow_add-result c =
+    let few = created_few c.args.hold c.args.bytes.now (take c.loop-token.token-index c.args.tokens.now) _ _ _ _ c.loop-token.invariant.run in
+    omega (arith, few.1, length-take c.loop-token.token-index c.args.tokens.now, c.requires.few)
+
+pub returns-clause-symbols : goal.returns-clause-symbols
+returns-clause-symbols c =
+    let whole = take_all c.loop-token.token-index c.args.tokens.now c.loop-token-test.false in
+    symbols_of c.args.hold (names_among c.args.bytes.now c.args.tokens.now) c.loop-token.plain.texts _ _ _ (omega (arith, c.requires.window.1))
+    (subst (λ found. SymbolRun c.args.hold (names_among c.args.bytes.now found) c.loop-token.plain.texts c.loop-token.plain.created c.loop-token.window.items c.loop-token.counts) whole c.loop-token.invariant.run)

@@ -1,14 +1,17 @@
-use Rattle.std.proofs.Common.{◌≡◌, ◌+◌, ◌≤◌, Some, None, refl, sym, ap, ◌∙◌, arith}
+use Rattle.std.proofs.Common.{refl, sym, ap, ◌∙◌, arith}
 use Rattle.plain_interner.specs.View.{text_map}
 use Rattle.plain_interner.proofs.Events.{Follows-created, raised_same, raised_counted}
-use Rattle.plain_interner.proofs.Kept.{IsKept-created, IsKept-counted, IsKept-failed}
+use Rattle.plain_interner.proofs.Kept.{IsKept-created, IsKept-counted, IsKept-failed, free_slot}
 use Rattle.plain_interner.proofs.plain.Plain.intern.Goals as goal
+
+pub add_both-requires : goal.add_both-requires
+add_both-requires c = free_slot _ _ c.self.inside.texts.entries c.self.inside.created c.self.invariant
 
 -- want of memory
 pub invariant_of-self : goal.invariant_of-self
 invariant_of-self c =
     let told = c.in_err-add_both.ensures in
-    IsKept-failed _ _ _ _ c.self.inside.texts.entries _ c.self.inside.created c.self.invariant told.err (omega (arith, told.len)) told.others
+    IsKept-failed _ _ _ _ c.self.inside.texts.entries _ c.self.inside.created c.self.invariant told.err (omega (arith, told.len)) told.free told.others
 
 -- a new entry
 pub invariant_of-self-in_default : goal.invariant_of-self-in_default
@@ -16,7 +19,7 @@ invariant_of-self-in_default c =
     let inside = c.self.inside in
     let told = c.in_ok-add_both.ensures in
     IsKept-created (text_map inside.entries.entries) _ _ _ inside.texts.entries _ inside.created c.args.text.now (record { slot = inside.created; generation = 0 })
-    c.self.invariant (omega (arith, ap (λ s. s.created) c.self.view_is, c.requires.room)) refl told.ok told.len told.slot told.others
+    c.self.invariant (omega (arith, ap (λ s. s.created) c.self.view_is, c.requires.room)) (sym c.entry_at.ensures ∙ c.in_default.is) refl told.ok told.len told.slot told.others
 
 pub returns-in_default-clause-follows : goal.returns-in_default-clause-follows
 returns-in_default-clause-follows c =

@@ -1,5 +1,3 @@
-use Rattle.std.proofs.Common.{IsTrue, ◌↔◌, sym, ap, ◌∙◌, rules}
-use Rattle.intern_log.specs.TextMap.{IsLive}
 use Rattle.plain_interner.specs.View.{text_map}
 use Rattle.plain_interner.proofs.Events.{is_live-answer}
 use Rattle.plain_interner.proofs.plain.Plain.is_live.Goals as goal

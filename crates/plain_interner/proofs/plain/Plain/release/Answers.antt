@@ -1,4 +1,4 @@
-use Rattle.std.proofs.Common.{◌≡◌, Some, None, refl, sym, ap, ◌∙◌, ◌-◌, arith}
+use Rattle.std.proofs.Common.{sym, ap, ◌∙◌, ◌-◌, arith}
 use Rattle.intern_log.specs.TextMap.{put_at}
 use Rattle.plain_interner.specs.View.{text_map}
 use Rattle.plain_interner.proofs.Events.{Follows-dropped, lowered_permanent, lowered_to, lowered_away}
@@ -35,7 +35,7 @@ pub invariant_of-self-2 : goal.invariant_of-self-2
 invariant_of-self-2 c =
     let found = c.in-Some.ensures.found in
     IsKept-removed _ _ _ _ c.self.inside.texts.entries _ _ c.args.handle.slot c.in-Some.text.now c.self.invariant found.0
-    (c.remove_both.ensures.slot c.in-Some.text.now found.0) c.remove_both.ensures.len c.remove_both.ensures.others
+    (c.remove_both.ensures.slot c.in-Some.text.now found.0) c.remove_both.ensures.len c.remove_both.ensures.gone c.remove_both.ensures.others
 
 pub returns-clause-follows : goal.returns-clause-follows
 returns-clause-follows c =

@@ -4,4 +4,4 @@ use Rattle.table_program.proofs.name_scan.laws.tokens_are_in_order.Goals as goal
 
 pub returns : goal.returns
 unfolding tokens
-returns c = λ bs. in_order (pieces bs) 0
+returns c = record { law = λ bs. in_order (pieces bs) 0 }

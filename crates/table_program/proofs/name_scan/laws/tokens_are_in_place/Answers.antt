@@ -6,4 +6,4 @@ use Rattle.table_program.proofs.name_scan.laws.tokens_are_in_place.Goals as goal
 
 pub returns : goal.returns
 unfolding tokens
-returns c = λ bs. in_place (pieces bs) bs 0 (omega arith) (inr (λ first. absurd (omega arith))) (pieces_cut bs)
+returns c = record { law = λ bs. in_place (pieces bs) bs 0 (omega arith) (inr (λ first. absurd (omega arith))) (pieces_cut bs) }

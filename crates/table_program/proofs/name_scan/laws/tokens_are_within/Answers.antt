@@ -6,4 +6,4 @@ use Rattle.table_program.proofs.name_scan.laws.tokens_are_within.Goals as goal
 
 pub returns : goal.returns
 unfolding tokens
-returns c = λ bs. within_bytes (pieces bs) bs 0 (omega arith) (pieces_cut bs)
+returns c = record { law = λ bs. within_bytes (pieces bs) bs 0 (omega arith) (pieces_cut bs) }

@@ -1,0 +1,50 @@
+-- What a run of `plain` does.
+use Rattle.std.specs.Prelude.{◌≡◌, ℕ, ◌==◌, nat_eq, List, [], ◌∷◌, ◌++◌, length, Option, Some, None, option_map, IfSome, IsTrue, if◌then◌else◌}
+use Rattle.std.specs.Option.{option_and_then}
+use Rattle.std.specs.List.{list_any}
+use Rattle.io_edge.specs.Faults.{Rose}
+use Rattle.table_program.specs.declared.outcome.Limit.TheVariants.{Bytes}
+use Rattle.table_program.specs.declared.outcome.Note.{Note}
+use Rattle.table_program.specs.declared.outcome.Note.TheVariants as note
+use Rattle.table_program.specs.declared.reading.ReadFault.{ReadFault}
+use Rattle.table_program.specs.declared.reading.ReadFault.TheVariants.{Failed, TooLong, OutOfMemory}
+use Rattle.table_program.specs.PlainReport.{IsPlainReport}
+use Rattle.table_program.specs.Words.{plain_name}
+use Rattle.table_program.specs.Writing.{WritesPart}
+
+-- the bytes of the file that the words name, where they are told
+abbrev pub told_file : (List ℕ → Option (List ℕ)) → List (List ℕ) → Option (List ℕ)
+told_file bytes_of words = option_and_then bytes_of (plain_name words)
+
+-- the count of faults of the file that the words name rose
+abbrev pub NamedRose : List (List ℕ) → (List ℕ → ℕ) → (List ℕ → ℕ) → Type 0
+NamedRose words old new = IfSome (plain_name words) (λ name. Rose (old name) (new name))
+
+-- whether the status is one of these
+abbrev pub IsOneOf : List ℕ → ℕ → Type 0
+IsOneOf statuses status = IsTrue (list_any (nat_eq status) statuses)
+
+-- the note that goes with a status of `plain`
+abbrev pub note_of : ℕ → Note
+note_of status =
+    if status == 2 then note.File 1
+    else (if status == 4 then note.Limit Bytes 65536
+    else note.Nothing)
+
+-- the report of the bytes was written behind what was there before
+pub record WritesReport (bytes : List ℕ) (before after : Option (List ℕ)) : Type 0 where
+  pub text : List ℕ
+  pub is_report : IsPlainReport bytes text
+  pub appended : after ≡ option_map (λ written. written ++ text) before
+
+-- some bytes from the front of the report were written behind what was there before, and not the whole
+pub record WritesPartOfReport (bytes : List ℕ) (before after : Option (List ℕ)) : Type 0 where
+  pub text : List ℕ
+  pub is_report : IsPlainReport bytes text
+  pub part : WritesPart text before after
+
+-- the status where a file was not read whole
+abbrev pub status_of : ReadFault → ℕ
+status_of Failed = 2
+status_of TooLong = 4
+status_of OutOfMemory = 6
