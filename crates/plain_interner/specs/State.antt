@@ -12,6 +12,7 @@ use Rattle.intern_log.specs.declared.event.What.TheVariants as what
 use Rattle.intern_log.specs.declared.event.TheConstants.{PERMANENT}
 use Rattle.intern_log.specs.TextMap.{TextMap, text_map_code}
 use Rattle.intern_log.specs.Log.{next, Allows}
+use Rattle.intern_log.specs.PlainLogs.{slots_taken}
 use Rattle.plain_interner.specs.declared.plain.PlainInterned.{PlainInterned}
 use Rattle.plain_interner.specs.declared.plain.PlainInterned.TheVariants.{Created, Taken, Found}
 
@@ -41,17 +42,12 @@ kind_code = code_by Bool coded_bool is_weak kind_of kind_of-is_weak
 abbrev pub state_code : Coded State
 state_code = code_by (Kind × (TextMap × ℕ)) (coded× kind_code (coded× text_map_code coded_ℕ)) (λ s. (s.kind, (s.texts, s.created))) (λ p. record { kind = p.0; texts = p.1.0; created = p.1.1 }) (λ _. refl)
 
--- how many slots an event uses up
-abbrev pub new_slots : What → ℕ
-new_slots (what.Create text h) = 1
-new_slots _ = 0
-
 -- the new state is the old one after this event, which the old one allows
 pub record Follows (old : State) (event : What) (new : State) : Type 0 where
   pub allowed : Allows old.texts event
   pub texts : new.texts ≡ next old.texts event
   pub kind : new.kind ≡ old.kind
-  pub created : new.created ≡ old.created + new_slots event
+  pub created : new.created ≡ old.created + slots_taken event
 
 -- the event that an answer to an intern of the text tells of
 abbrev pub event_of : List ℕ → PlainInterned → What

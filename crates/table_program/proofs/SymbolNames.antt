@@ -17,14 +17,10 @@ use Rattle.intern_log.specs.PlainLogs.{slots_taken}
 use Rattle.table_program.specs.declared.name_scan.Token.{Token}
 use Rattle.table_program.specs.FileTexts.{is_name, text_of, names_among}
 use Rattle.table_program.specs.Holding.{times_held, Counts, Holds}
-use Rattle.plain_interner.specs.State.{State, Follows, new_slots}
+use Rattle.plain_interner.specs.State.{State, Follows}
 use Rattle.table_program.specs.declared.table_report.SymbolCounts.{SymbolCounts}
 use Rattle.table_program.specs.SymbolRun.{SymbolRun, NameInterned}
 use Rattle.table_program.specs.Symbols.{InternsName, NamesSoFar}
-
-same_slots : (what : What) → new_slots what ≡ slots_taken what
-same_slots (Create text h) = refl
-same_slots _ = refl
 
 -- a name that an interner has interned on the way through a file's names
 pub name_interned : (hold : ℕ) (names : List (List ℕ)) (old new : State) (window : List Handle) (was is : SymbolCounts) (name : List ℕ) (h : Handle) →
@@ -39,7 +35,7 @@ name_interned hold names old new window was is name h run interns = record {
   allowed = interns.follows.allowed;
   numbered = interns.numbered;
   texts_are = interns.follows.texts;
-  created_are = interns.follows.created ∙ ap (λ n. old.created + n) (same_slots interns.what);
+  created_are = interns.follows.created;
   counts_are = interns.counts;
 }
 
