@@ -19,14 +19,14 @@ use Rattle.intern_log.proofs.Handles.{handle_eq-Decides}
 use Rattle.table_program.specs.Holding.{Held, times_held, IsHeldAs, Counts, Holds}
 
 -- one more hold, behind the others or before them, of the text or of another
-times_held-push : (q t : List ℕ) (h : Handle) (held : List Held) (b : Bool) → bytes_eq q t ≡ b → times_held q (held ++ (t, h) ∷ []) ≡ times_held q held + cond b 1 0
+pub times_held-push : (q t : List ℕ) (h : Handle) (held : List Held) (b : Bool) → bytes_eq q t ≡ b → times_held q (held ++ (t, h) ∷ []) ≡ times_held q held + cond b 1 0
 times_held-push q t h held b is =
     sum_by-append (λ (p : Held). cond (bytes_eq q p.0) 1 0) held ((t, h) ∷ []) ∙ ap (λ c. times_held q held + (0 + cond c 1 0)) is ∙ ap (λ n. times_held q held + n) (zero-add _)
 
-times_held-cons : (q : List ℕ) (p : Held) (held : List Held) (b : Bool) → bytes_eq q p.0 ≡ b → times_held q (p ∷ held) ≡ cond b 1 0 + times_held q held
+pub times_held-cons : (q : List ℕ) (p : Held) (held : List Held) (b : Bool) → bytes_eq q p.0 ≡ b → times_held q (p ∷ held) ≡ cond b 1 0 + times_held q held
 times_held-cons q p held b is = sum_by-cons (λ (r : Held). cond (bytes_eq q r.0) 1 0) p held ∙ ap (λ c. cond c 1 0 + times_held q held) is
 
-IsHeldAs-push : (q : List ℕ) (k : Handle) (held : List Held) (t : List ℕ) (h : Handle) → IsHeldAs q k held → (bytes_eq q t ≡ true → h ≡ k) → IsHeldAs q k (held ++ (t, h) ∷ [])
+pub IsHeldAs-push : (q : List ℕ) (k : Handle) (held : List Held) (t : List ℕ) (h : Handle) → IsHeldAs q k held → (bytes_eq q t ≡ true → h ≡ k) → IsHeldAs q k (held ++ (t, h) ∷ [])
 IsHeldAs-push q k [] t h all this = (this, tt)
 IsHeldAs-push q k (p ∷ held) t h all this = (all.0, IsHeldAs-push q k held t h all.1 this)
 
@@ -37,12 +37,12 @@ IsHeldAs-none q k (p ∷ held) none =
     let rest : times_held q held ≤ times_held q (p ∷ held) = omega (arith, times_held-cons q p held (bytes_eq q p.0) refl) in
     ((λ here. let one = times_held-cons q p held true here in absurd (omega arith)), IsHeldAs-none q k held (omega arith))
 
-not_true : (b : Bool) → (b ≡ true → ⊥) → b ≡ false
+pub not_true : (b : Bool) → (b ≡ true → ⊥) → b ≡ false
 not_true true never = absurd (never refl)
 not_true false never = refl
 
 -- it is not the same text
-not_same : (b : Bool) → b ≡ true → b ≡ false → ⊥
+pub not_same : (b : Bool) → b ≡ true → b ≡ false → ⊥
 not_same b is is_not = cc
 
 -- the entry of a text after a Create, where the test says whether it is the text of the Create
@@ -99,7 +99,7 @@ front_case t h held None none =
     let one = times_held-cons t (t, h) held true ((bytes_eq-Decides t t).1 refl) in absurd (omega arith)
 front_case t h held (Some e) counts = (e, refl, sym (counts.handle.0 ((bytes_eq-Decides t t).1 refl)))
 
-front_has : (m : TextMap) (held : List Held) (t : List ℕ) (h : Handle) → Holds m ((t, h) ∷ held) → HasHandle m t h
+pub front_has : (m : TextMap) (held : List Held) (t : List ℕ) (h : Handle) → Holds m ((t, h) ∷ held) → HasHandle m t h
 front_has m held t h holds = front_case t h held (entry_of m t) (holds t)
 
 -- what is held is live

@@ -9,3 +9,4 @@ pub mod Pushes
 pub mod SymbolSteps
 pub mod LiveTexts
 pub mod References
+pub mod EachOnce

@@ -7,7 +7,6 @@ use Rattle.std.specs.Ordering.{nat_cmp, eq_by_cmp, is_lt}
 use Rattle.std.specs.Cmp.Lexicographic.{slice_cmp, texts_ties}
 use Rattle.std.proofs.lemmas.Bool.{lt-ltb, le-ltb, or_left}
 use Rattle.std.proofs.lemmas.Cmp.{nat_list_cmp_total}
-use Rattle.std.proofs.lemmas.List.Sums.{sum_by-cons}
 use Rattle.std.specs.FinMap as finite
 use Rattle.std.specs.FinMap.Entries.{below_all, is_some-find}
 use Rattle.intern_log.specs.declared.event.Entry.{Entry}
@@ -15,6 +14,7 @@ use Rattle.intern_log.specs.TextMap.{TextMap, entry_of, live_texts}
 use Rattle.intern_log.specs.Finals.{is_among_texts, distinct_texts}
 use Rattle.table_program.specs.Holding.{Held, times_held, Counts, Holds}
 use Rattle.table_program.specs.SymbolRun.{held_texts}
+use Rattle.table_program.proofs.Holds.{times_held-cons}
 
 -- nothing at each key
 abbrev marked : {X : Type 0} → List (List ℕ × X) → List (List ℕ × Unit {0})
@@ -81,12 +81,10 @@ among_held : (q : List ℕ) (held : List Held) → is_among_texts (held_texts he
 among_held q [] = refl
 among_held q (p ∷ held) = by_test (bytes_eq q p.0) refl (among_held q held)
   where
-    more : (b : Bool) → bytes_eq q p.0 ≡ b → times_held q (p ∷ held) ≡ cond b 1 0 + times_held q held
-    more b is = sum_by-cons (λ (r : Held). cond (bytes_eq q r.0) 1 0) p held ∙ ap (λ c. cond c 1 0 + times_held q held) is
 
     by_test : (b : Bool) → bytes_eq q p.0 ≡ b → is_among_texts (held_texts held) q ≡ nat_lt 0 (times_held q held) → (bytes_eq q p.0 || is_among_texts (held_texts held) q) ≡ nat_lt 0 (times_held q (p ∷ held))
-    by_test true is rest = or_left _ _ is ∙ sym (lt-ltb 0 _ (omega (arith, more true is)))
-    by_test false is rest = ap (λ b. b || is_among_texts (held_texts held) q) is ∙ rest ∙ ap (nat_lt 0) (sym (more false is ∙ zero-add _))
+    by_test true is rest = or_left _ _ is ∙ sym (lt-ltb 0 _ (omega (arith, times_held-cons q p held true is)))
+    by_test false is rest = ap (λ b. b || is_among_texts (held_texts held) q) is ∙ rest ∙ ap (nat_lt 0) (sym (times_held-cons q p held false is ∙ zero-add _))
 
 -- an entry is there exactly if its text is held
 there_if_held : (q : List ℕ) (held : List Held) (o : Option Entry) → MatchOption o (times_held q held ≡ 0) (Counts q held) → is_some o ≡ nat_lt 0 (times_held q held)

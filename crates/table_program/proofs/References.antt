@@ -1,6 +1,6 @@
 -- The entries of a map whose counts are those of a list of held texts count as many holds as the list has.
 use Rattle.std.proofs.Common.{◌≡◌, ℕ, ◌+◌, ◌<◌, Bool, true, false, cond, List, [], ◌∷◌, map, length, sum_by, count_by, Option, Some, None, refl, sym, ap, ◌∙◌, ◌&&◌, ◌||◌, arith, zero-add}
-use Rattle.std.specs.Prelude.{T, nat_lt, MatchOption, if◌then◌else◌}
+use Rattle.std.specs.Prelude.{T, MatchOption}
 use Rattle.std.specs.Str.{bytes_eq}
 use Rattle.std.specs.Ordering.{nat_cmp, is_lt, is_eq}
 use Rattle.std.specs.declared.cmp.Ordering.{Ordering}
@@ -15,17 +15,10 @@ use Rattle.intern_log.specs.declared.event.Entry.{Entry}
 use Rattle.intern_log.specs.declared.event.TheConstants.{PERMANENT}
 use Rattle.intern_log.specs.TextMap.{TextMap, entry_of}
 use Rattle.intern_log.specs.Finals.{is_among_texts}
+use Rattle.plain_interner.specs.State.{references_to, references_of}
 use Rattle.table_program.specs.Holding.{Held, times_held, Counts, Holds}
 use Rattle.table_program.specs.SymbolRun.{held_texts}
 use Rattle.table_program.proofs.LiveTexts.{held_are_live, list_any-agree}
-
--- how many holds an entry counts: none, where it is permanent
-abbrev references_to : Entry → ℕ
-references_to e = if nat_lt e.count PERMANENT then e.count else 0
-
--- how many holds the entries count together
-abbrev references_of : TextMap → ℕ
-references_of m = sum_by references_to (finite.values m)
 
 -- a list of entries in the order of their texts
 abbrev Sorted : List (List ℕ × Entry) → Type 0

@@ -7,3 +7,4 @@ pub mod PlainReport
 pub mod Holding
 pub mod OneSeatLog
 pub mod SymbolRun
+pub mod StringRun
