@@ -10,3 +10,5 @@ pub mod SymbolSteps
 pub mod LiveTexts
 pub mod References
 pub mod EachOnce
+pub mod StringSteps
+pub mod StringTotals
