@@ -39,6 +39,7 @@ HasEach-create m held t h has absent = record {
   where
     none_yet : times_held t held ≡ 0
     none_yet = not_held t held (entry_of m t) (has.holds t) absent
+
     by_test : (q : List ℕ) (b : Bool) → bytes_eq q t ≡ b → times_held q (held ++ (t, h) ∷ []) ≤ 1
     by_test q true same =
         let none : times_held q held ≡ 0 = ap (λ u. times_held u held) ((bytes_eq-Decides q t).0 same) ∙ none_yet in
@@ -85,15 +86,18 @@ kill_case q t h held (Some e) none here only before = by_test (handle_eq e.handl
 pub HasEach-kill : (m : TextMap) (held : List Held) (t : List ℕ) (h : Handle) → HasEach m ((t, h) ∷ held) → HandlesDiffer m → HasEach (next m (Kill h)) held
 HasEach-kill m held t h has differ = record {
   holds = λ q. (let P : Option Entry → Type 0 = λ o. MatchOption o (times_held q held ≡ 0) (Counts q held) in
-  subst P (sym (entry_of-next m (Kill h) q)) (kill_case q t h held (entry_of m q) none (here q) (only q) (has.holds q)));
+      subst P (sym (entry_of-next m (Kill h) q)) (kill_case q t h held (entry_of m q) none (here q) (only q) (has.holds q)));
   once = λ q. omega (arith, times_held-cons q (t, h) held (bytes_eq q t) refl, has.once q);
 }
   where
     front : HasHandle m t h
     front = front_has m held t h has.holds
+
     none : times_held t held ≡ 0
     none = omega (arith, times_held-cons t (t, h) held true ((bytes_eq-Decides t t).1 refl), has.once t)
+
     here : (q : List ℕ) → bytes_eq q t ≡ true → (e : Entry) × (entry_of m q ≡ Some e) × (e.handle ≡ h)
     here q same = (front.0, ap (entry_of m) ((bytes_eq-Decides q t).0 same) ∙ front.1, front.2)
+
     only : (q : List ℕ) (e : Entry) → entry_of m q ≡ Some e → e.handle ≡ h → bytes_eq q t ≡ true
     only q e is same = (bytes_eq-Decides q t).1 (differ q t h (e, is, same) front)

@@ -12,3 +12,4 @@ pub mod References
 pub mod EachOnce
 pub mod StringSteps
 pub mod StringTotals
+pub mod StringCode

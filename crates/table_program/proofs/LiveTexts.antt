@@ -81,7 +81,6 @@ among_held : (q : List ℕ) (held : List Held) → is_among_texts (held_texts he
 among_held q [] = refl
 among_held q (p ∷ held) = by_test (bytes_eq q p.0) refl (among_held q held)
   where
-
     by_test : (b : Bool) → bytes_eq q p.0 ≡ b → is_among_texts (held_texts held) q ≡ nat_lt 0 (times_held q held) → (bytes_eq q p.0 || is_among_texts (held_texts held) q) ≡ nat_lt 0 (times_held q (p ∷ held))
     by_test true is rest = or_left _ _ is ∙ sym (lt-ltb 0 _ (omega (arith, times_held-cons q p held true is)))
     by_test false is rest = ap (λ b. b || is_among_texts (held_texts held) q) is ∙ rest ∙ ap (nat_lt 0) (sym (times_held-cons q p held false is ∙ zero-add _))

@@ -120,6 +120,7 @@ module _ (final literals : List (List ℕ)) (listed left : List Held) (texts : T
       chosen : (b : Bool) → cons_option (cond b None (Some (Kill h))) [] ≡ cond b [] (Kill h ∷ [])
       chosen true = refl
       chosen false = refl
+
       by_test : (b : Bool) → is_among_texts final t ≡ b → filter_map (kill_for final) ((t, h) ∷ []) ≡ cond b [] (Kill h ∷ [])
       by_test b is = ap (λ c. cons_option (cond c None (Some (Kill h))) []) is ∙ chosen b
 

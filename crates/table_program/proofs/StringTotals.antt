@@ -1,5 +1,5 @@
 -- What holds once all entries are listed.
-use Rattle.std.proofs.Common.{◌≡◌, ℕ, zero, suc, ◌+◌, ◌-◌, Bool, true, false, cond, List, [], ◌∷◌, ◌++◌, Option, Some, None, length, drop, filter, map, count_by, refl, sym, ap, subst, ◌∙◌, ◌⊎◌, inl, inr, arith, append-nil, zero-add, ◌||◌, ◌&&◌}
+use Rattle.std.proofs.Common.{◌≡◌, ℕ, zero, suc, ◌+◌, ◌-◌, ◌≤◌, Bool, true, false, cond, List, [], ◌∷◌, ◌++◌, Option, Some, None, length, drop, filter, map, count_by, refl, sym, ap, subst, ◌∙◌, ◌⊎◌, inl, inr, arith, append-nil, zero-add, ◌||◌, ◌&&◌}
 use Rattle.std.specs.List.{filter_map, cons_option}
 use Rattle.std.specs.Option.{option_and_then}
 use Rattle.std.specs.Str.{bytes_eq}
@@ -18,7 +18,7 @@ use Rattle.table_program.specs.declared.table_report.StringCounts.{StringCounts}
 use Rattle.table_program.specs.Holding.{Held}
 use Rattle.table_program.specs.PlainReport.{string_counts}
 use Rattle.table_program.specs.SymbolRun.{held_texts}
-use Rattle.table_program.specs.StringRun.{made_by, made_in, kept_among, kill_for, kills_among, StringListing, IsStringsOf}
+use Rattle.table_program.specs.StringRun.{made_by, made_in, kept_among, kill_for, kills_among, StringRun, StringListing, IsStringsOf}
 use Rattle.table_program.proofs.LiveTexts.{live_texts_are, held_are_live}
 
 -- the Kill for an event is that of the entry that it made
@@ -73,6 +73,12 @@ intern_counts (t ∷ literals) whats run =
       no_kills = omega (arith, one.no_kill, rest.no_kills);
     })
 
+-- no more entries are made than there are literals
+pub created_within : (literals : List (List ℕ)) (texts : TextMap) (created : ℕ) (made : List Held) → StringRun literals texts created made → created ≤ length literals
+created_within literals texts created made run =
+    let counts = intern_counts literals run.interns run.in_order in
+    omega (arith, counts.interns, run.log.created_are)
+
 record KillCounts (whats : List What) : Type 0 where
   no_creates : count_by is_create whats ≡ 0
   no_founds : count_by is_found whats ≡ 0
@@ -90,6 +96,14 @@ kill_counts final (p ∷ entries) = by_test (is_among_texts final p.0) (kill_cou
       kills = (let more = sum_by-cons (λ w. one_if (is_kill w)) (Kill p.1) (kills_among final entries) in omega (arith, rest.kills));
     }
 
+-- also once some entries are killed
+pub created_within_listing : (final literals : List (List ℕ)) (listed left : List Held) (texts : TextMap) (created killed : ℕ) → StringListing final literals listed left texts created killed → created ≤ length literals
+created_within_listing final literals listed left texts created killed listing =
+    let counts = intern_counts literals listing.interns listing.in_order in
+    let kills = kill_counts final listed in
+    let parts = sum_by-append (λ w. one_if (is_create w)) listing.interns (kills_among final listed) in
+    omega (arith, counts.interns, kills.no_creates, listing.log.created_are)
+
 -- what begins a numbered list is numbered
 IsNumberedFrom-prefix : (n : ℕ) (xs ys : List What) → IsNumberedFrom n (xs ++ ys) → IsNumberedFrom n xs
 IsNumberedFrom-prefix n [] ys numbered = tt
@@ -102,6 +116,7 @@ kept_case final q t among kept f b is same rest = by_test f b is same
   where
     here : bytes_eq q t ≡ true → is_among_texts final q ≡ is_among_texts final t
     here equal = ap (is_among_texts final) ((bytes_eq-Decides q t).0 equal)
+
     by_test : (f b : Bool) → is_among_texts final t ≡ f → bytes_eq q t ≡ b → cond f (bytes_eq q t || kept) kept ≡ ((bytes_eq q t || among) && is_among_texts final q)
     by_test true true is same = or_left _ _ same ∙ sym (ap (λ c. (c || among) && is_among_texts final q) same ∙ here same ∙ is)
     by_test true false is same = ap (λ c. c || kept) same ∙ rest ∙ ap (λ c. (c || among) && is_among_texts final q) (sym same)
@@ -162,7 +177,7 @@ strings_are hold literals made texts created killed counts listing created_is fo
       };
       texts_are = listing.log.texts_are;
       live_are = live_texts_are texts final (λ q.
-      held_are_live texts (kept_among final made) listing.has.holds q
+          held_are_live texts (kept_among final made) listing.has.holds q
           ∙ among_kept final made q
           ∙ ap (λ b. b && is_among_texts final q) (ap (λ entries. is_among_texts (held_texts entries) q) (sym (append-nil made)) ∙ listing.all q)
           ∙ both_same (is_among_texts literals q) (is_among_texts final q) (among_dropped (length literals - hold) literals q));

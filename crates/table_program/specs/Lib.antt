@@ -8,3 +8,4 @@ pub mod Holding
 pub mod OneSeatLog
 pub mod SymbolRun
 pub mod StringRun
+pub mod MadeEntries

@@ -1,5 +1,6 @@
 //! The program's commands.
 #![tactic(auto)]
 
+mod literals;
 pub mod name_scan;
 pub mod table_report;

@@ -1,0 +1,11 @@
+use Rattle.std.proofs.Common.{sym, ◌∙◌, ap, map, get_or}
+use Rattle.std.specs.Str.{bytes_eq}
+use Rattle.std.proofs.lemmas.List.{get_or-map}
+use Rattle.std.proofs.lemmas.List.Folds.{list_any_at}
+use Rattle.table_program.specs.FileTexts.{text_of}
+use Rattle.table_program.proofs.StringCode.{among_at}
+use Rattle.table_program.proofs.literals.is_among.Goals as goal
+
+pub returns-then-eq : goal.returns-then-eq
+returns-then-eq c = sym (among_at c.args.bytes.now c.args.literals.now c.loop-literal.literal-index _ c.args.text.now c.loop-literal-test.true
+    (ap (bytes_eq c.args.text.now) (sym c.text_at.ensures) ∙ sym c.if-eq.ensures))
