@@ -2,7 +2,7 @@
 use Rattle.std.proofs.Common.{◌≡◌, ℕ, zero, suc, ◌+◌, ◌-◌, ◌<◌, ◌≤◌, Bool, true, false, cond, List, [], ◌∷◌, ◌++◌, Option, Some, None, count_by, map, length, drop, refl, sym, ap, subst, ◌∙◌, ◌⊎◌, inl, inr, arith, length-append, length-drop, add-zero, append-nil, append_assoc, nat_lt}
 use Rattle.std.specs.Prelude.{slice_get}
 use Rattle.std.proofs.lemmas.List.{length-map, map-append}
-use Rattle.std.proofs.lemmas.Bool.{le-ltb, lt-ltb}
+use Rattle.std.proofs.lemmas.Bool.{le-ltb, lt-ltb, ltb-true, ltb-false}
 use Rattle.std.proofs.lemmas.List.Sums.{sum_by-append}
 use Rattle.intern_log.specs.declared.event.Handle.{Handle}
 use Rattle.intern_log.specs.declared.event.Event.{Event}
@@ -35,12 +35,12 @@ intern_holds m held t h what holds (inr is) allowed few =
     let take : Allows m (Take t h) = subst (Allows m) is allowed in
     subst (λ w. Holds (next m w) (held ++ (t, h) ∷ [])) (sym is) (Holds-take m held t h holds take few)
 
+no_item : {X : Type 0} (x : X) → Some x ≡ None → ⊥
+no_item x equal = cc
+
 -- an item of a mapped list
 slice_get-map : {X Y : Type 0} (f : X → Y) (xs : List X) (i : ℕ) (x : X) → slice_get xs i ≡ Some x → slice_get (map f xs) i ≡ Some (f x)
-slice_get-map f [] i x is = absurd (no_item is)
-  where
-    no_item : None ≡ Some x → ⊥
-    no_item equal = cc
+slice_get-map f [] i x is = absurd (no_item x (sym is))
 slice_get-map f (y ∷ ys) zero x is = let same : y ≡ x = cc in ap (λ z. Some (f z)) same
 slice_get-map f (y ∷ ys) (suc i) x is = slice_get-map f ys i x is
 
@@ -210,3 +210,33 @@ module _ (hold : ℕ) (names : List (List ℕ)) (name : List ℕ) (h : Handle) (
         all_names = omega (arith, more.created, more.taken, names_now);
         few_drops = omega (arith, more.dropped, few_drops_now, length-append names (name ∷ []));
       }
+
+-- what the push of a handle tells of the window
+pub pushed_out : (hold : ℕ) (window : List Handle) (h k : Handle) → Some k ≡ cond (nat_lt (length window) hold) None (slice_get (window ++ h ∷ []) 0) →
+    (hold ≤ length window) × (slice_get (window ++ h ∷ []) 0 ≡ Some k)
+pushed_out hold window h k is = by_test (nat_lt (length window) hold) refl is
+  where
+    by_test : (b : Bool) → nat_lt (length window) hold ≡ b → Some k ≡ cond b None (slice_get (window ++ h ∷ []) 0) → (hold ≤ length window) × (slice_get (window ++ h ∷ []) 0 ≡ Some k)
+    by_test true test none = absurd (no_item k none)
+    by_test false test some = (ltb-false (length window) hold test, sym some)
+
+pub none_out : (hold : ℕ) (window : List Handle) (h : Handle) → None ≡ cond (nat_lt (length window) hold) None (slice_get (window ++ h ∷ []) 0) → length window < hold
+none_out hold window h is = by_test (nat_lt (length window) hold) refl is
+  where
+    front : (hs : List Handle) → None ≡ slice_get (hs ++ h ∷ []) 0 → ⊥
+    front [] none = no_item h (sym none)
+    front (x ∷ hs) none = no_item x (sym none)
+
+    by_test : (b : Bool) → nat_lt (length window) hold ≡ b → None ≡ cond b None (slice_get (window ++ h ∷ []) 0) → length window < hold
+    by_test true test none = ltb-true (length window) hold test
+    by_test false test none = absurd (front window none)
+
+-- the same run, where the interner's parts and the window are called by other names
+pub SymbolRun-along : (hold : ℕ) (names : List (List ℕ)) (m n : TextMap) (i j : ℕ) (v w : List Handle) (counts : SymbolCounts) →
+    m ≡ n → i ≡ j → v ≡ w → SymbolRun hold names m i v counts → SymbolRun hold names n j w counts
+SymbolRun-along hold names m n i j v w counts texts created window run =
+    subst (λ x. SymbolRun hold names n j x counts) window (subst (λ x. SymbolRun hold names n x v counts) created (subst (λ x. SymbolRun hold names x i v counts) texts run))
+
+-- a Drop is one more drop
+pub dropped_once : (counts : SymbolCounts) (k : Handle) → CountsOneMore counts (Drop k) (record counts { dropped = counts.dropped + 1 })
+dropped_once counts k = record { created = sym (add-zero counts.created); taken = sym (add-zero counts.taken); dropped = refl }

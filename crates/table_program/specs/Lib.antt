@@ -1,11 +1,14 @@
 pub mod Pieces
 pub mod Tokens
 pub mod Places
-pub mod Report
 pub mod FileTexts
+pub mod Report
 pub mod PlainReport
 pub mod Holding
 pub mod OneSeatLog
 pub mod SymbolRun
 pub mod StringRun
 pub mod MadeEntries
+pub mod Symbols
+pub mod Notes
+pub mod Writing

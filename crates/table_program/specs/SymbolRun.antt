@@ -1,7 +1,8 @@
 -- What an interner, a window and counts stand for on the way through a file's names.
-use Rattle.std.specs.Prelude.{◌≡◌, ℕ, ◌+◌, ◌≤◌, List, [], ◌∷◌, ◌++◌, length, map, count_by, if◌then◌else◌}
+use Rattle.std.specs.Prelude.{◌≡◌, ℕ, ◌+◌, ◌-◌, ◌<◌, ◌≤◌, ◌^◌, List, [], ◌∷◌, ◌++◌, length, map, count_by, if◌then◌else◌}
 use Rattle.intern_log.specs.declared.event.Handle.{Handle}
 use Rattle.intern_log.specs.declared.event.What.{What}
+use Rattle.intern_log.specs.declared.event.TheConstants.{PERMANENT}
 use Rattle.intern_log.specs.TextMap.{TextMap}
 use Rattle.intern_log.specs.Log.{next, Allows}
 use Rattle.intern_log.specs.Counts.{is_create, is_take, is_drop}
@@ -17,6 +18,14 @@ held_texts pairs = map (λ (p : Held). p.0) pairs
 
 abbrev pub held_handles : List Held → List Handle
 held_handles pairs = map (λ (p : Held). p.1) pairs
+
+-- how many handles a window may hold so that no count of a symbol becomes permanent
+abbrev pub IsSymbolWindow : ℕ → Type 0
+IsSymbolWindow hold = (0 < hold) × (hold + 1 < PERMANENT)
+
+-- one more name may be counted
+abbrev pub CountsFit : SymbolCounts → Type 0
+CountsFit counts = counts.created + counts.taken < 2 ^ 64 - 1
 
 -- the counts are those of the events
 pub record CountsOf (whats : List What) (counts : SymbolCounts) : Type 0 where

@@ -3,4 +3,9 @@
 
 mod literals;
 pub mod name_scan;
+mod names;
+pub mod outcome;
+mod reading;
+pub mod settle;
 pub mod table_report;
+mod writing;

@@ -2,7 +2,8 @@
 //!
 //! The bytes are cut into pieces from the front: a run of name bytes, a literal, or one byte of
 //! neither kind. A run that begins with no digit is a name, and the text of a literal is a literal.
-ghost use Rattle.std.specs.Prelude.{◌≡◌, ◌+◌, ◌^◌, ◌<◌, ◌≤◌, length, IfOk, IsTrue, slice_index};
+ghost use Rattle.std.specs.Prelude.{◌≡◌, ◌+◌, ◌^◌, ◌<◌, ◌≤◌, length, IfOk, IsTrue, slice_index, slice_range};
+ghost use Rattle.table_program.specs.Places.{IsWithin};
 ghost use Rattle.table_program.specs.Pieces.{is_name_byte, piece_len, IsRun, IsLiteralText, EndsText, IsPiece};
 ghost use Rattle.table_program.specs.Tokens.{token_at, tokens};
 
@@ -35,6 +36,16 @@ pub struct Token {
     pub kind: TokenKind,
     pub start: usize,
     pub end: usize,
+}
+
+impl Token {
+    /// The bytes of the token, in the bytes of its file.
+    pub fn text(self, bytes: &[u8]) -> &[u8]
+        requires within { IsWithin bytes.now self }
+        ensures text { result.now ≡ slice_range bytes.now self.start self.end }
+    {
+        &bytes[self.start..self.end]
+    }
 }
 
 /// A piece of a file. The numbers are lengths in bytes: of a run, and of a literal's text.

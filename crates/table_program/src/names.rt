@@ -1,0 +1,154 @@
+//! The names of a file: interned in order, the last few of them held.
+ghost use Rattle.std.specs.Prelude.{◌≡◌, ℕ, ◌+◌, ◌-◌, ◌<◌, ◌≤◌, ◌^◌, List, [], ◌∷◌, ◌++◌, length, IfOk, OnOk, All};
+ghost use Rattle.intern_log.specs.declared.text.TheConstants.{MAX_TEXT};
+ghost use Rattle.table_program.specs.declared.name_scan.Token.{Token};
+ghost use Rattle.table_program.specs.FileTexts.{names_among};
+ghost use Rattle.table_program.specs.Places.{IsWithin};
+ghost use Rattle.table_program.specs.SymbolRun.{SymbolRun, NameInterned, IsSymbolWindow, CountsFit};
+ghost use Rattle.table_program.specs.Symbols.{InternsName};
+
+use crate::name_scan::{Token, TokenKind};
+use crate::table_report::SymbolCounts;
+use circular_buffer::HeapCircularBuffer;
+use intern_log::{Handle, Kind};
+use plain_interner::{Plain, PlainInterned};
+use std::alloc::{AllocError, Global};
+
+/// Interns one name, and counts the answer.
+fn intern_name(
+    plain: &mut Plain,
+    counts: &mut SymbolCounts,
+    name: &[u8],
+) -> Result<Handle, AllocError>
+    requires counted { plain.old.kind ≡ Kind.Counted }
+    requires short { length name.now ≤ MAX_TEXT }
+    requires room { plain.old.created < 2 ^ 32 - 1 }
+    requires fits { CountsFit counts.old }
+    ensures interned { IfOk result (InternsName plain.old counts.old name.now plain.new counts.new) }
+{
+    match plain.intern(name)? {
+        PlainInterned::Created(handle) => {
+            counts.created += 1;
+            Ok(handle)
+        }
+        PlainInterned::Taken(handle) => {
+            counts.taken += 1;
+            Ok(handle)
+        }
+        PlainInterned::Found(_) => unreachable!(),
+    }
+}
+
+/// Puts the handle of a name that was interned just now into the window, and drops the handle that
+/// leaves it.
+fn hold_handle(
+    plain: &mut Plain,
+    window: &mut HeapCircularBuffer<Handle>,
+    counts: &mut SymbolCounts,
+    handle: Handle,
+)
+    requires counted { plain.old.kind ≡ Kind.Counted }
+    requires window { IsSymbolWindow window.old.capacity }
+    requires fits { counts.old.dropped < 2 ^ 64 - 1 }
+    requires interned { (names : List (List ℕ)) × (name : List ℕ) × NameInterned window.old.capacity names name handle plain.old.texts plain.old.created window.old.items counts.old }
+    ensures held { (names : List (List ℕ)) (name : List ℕ) →
+        NameInterned window.old.capacity names name handle plain.old.texts plain.old.created window.old.items counts.old →
+        SymbolRun window.old.capacity (names ++ name ∷ []) plain.new.texts plain.new.created window.new.items counts.new }
+    ensures kind { plain.new.kind ≡ plain.old.kind }
+    ensures capacity { window.new.capacity ≡ window.old.capacity }
+{
+    if let Some(leaving) = window.push_back(handle) {
+        plain.release(leaving);
+        counts.dropped += 1;
+    }
+}
+
+/// Interns one name, and holds its handle in place of the one that leaves the window.
+fn hold_name(
+    plain: &mut Plain,
+    window: &mut HeapCircularBuffer<Handle>,
+    counts: &mut SymbolCounts,
+    name: &[u8],
+) -> Result<(), AllocError>
+    requires counted { plain.old.kind ≡ Kind.Counted }
+    requires short { length name.now ≤ MAX_TEXT }
+    requires room { plain.old.created < 2 ^ 32 - 1 }
+    requires fits { CountsFit counts.old }
+    requires window { IsSymbolWindow window.old.capacity }
+    requires run { (names : List (List ℕ)) × SymbolRun window.old.capacity names plain.old.texts plain.old.created window.old.items counts.old }
+    ensures held { (names : List (List ℕ)) →
+        SymbolRun window.old.capacity names plain.old.texts plain.old.created window.old.items counts.old →
+        OnOk result (SymbolRun window.old.capacity (names ++ name.now ∷ []) plain.new.texts plain.new.created window.new.items counts.new) }
+    ensures kind { OnOk result (plain.new.kind ≡ Kind.Counted) }
+    ensures capacity { OnOk result (window.new.capacity ≡ window.old.capacity) }
+{
+    let handle = intern_name(plain, counts, name)?;
+    hold_handle(plain, window, counts, handle);
+    Ok(())
+}
+
+/// Interns and holds the token where it is a name; any other token is passed over.
+fn hold_token(
+    plain: &mut Plain,
+    window: &mut HeapCircularBuffer<Handle>,
+    counts: &mut SymbolCounts,
+    bytes: &[u8],
+    token: Token,
+) -> Result<(), AllocError>
+    requires counted { plain.old.kind ≡ Kind.Counted }
+    requires within { IsWithin bytes.now token }
+    requires short { length bytes.now ≤ MAX_TEXT }
+    requires room { plain.old.created < 2 ^ 32 - 1 }
+    requires fits { CountsFit counts.old }
+    requires window { IsSymbolWindow window.old.capacity }
+    requires run { (names : List (List ℕ)) × SymbolRun window.old.capacity names plain.old.texts plain.old.created window.old.items counts.old }
+    ensures held { (found : List Token) →
+        SymbolRun window.old.capacity (names_among bytes.now found) plain.old.texts plain.old.created window.old.items counts.old →
+        OnOk result (SymbolRun window.old.capacity (names_among bytes.now (found ++ token ∷ [])) plain.new.texts plain.new.created window.new.items counts.new) }
+    ensures kind { OnOk result (plain.new.kind ≡ Kind.Counted) }
+    ensures capacity { OnOk result (window.new.capacity ≡ window.old.capacity) }
+{
+    match token.kind {
+        TokenKind::Name => hold_name(plain, window, counts, token.text(bytes)),
+        TokenKind::Literal => Ok(()),
+    }
+}
+
+/// The symbols of a file: the interner after its last name, the handles that are held at the end, and
+/// how often each answer came.
+pub(crate) struct Symbols {
+    pub plain: Plain,
+    pub window: HeapCircularBuffer<Handle>,
+    pub counts: SymbolCounts,
+}
+
+/// Interns the names among a file's tokens in order, each held until `hold` others were interned
+/// after it. Want of memory is the only error.
+pub(crate) fn intern_names(
+    alloc: Global,
+    bytes: &[u8],
+    tokens: &[Token],
+    hold: usize,
+) -> Result<Symbols, AllocError>
+    requires window { IsSymbolWindow hold }
+    requires within { All (IsWithin bytes.now) tokens.now }
+    requires short { length bytes.now ≤ MAX_TEXT }
+    requires few { length tokens.now < 2 ^ 32 - 1 }
+    ensures run { IfOk result (λ symbols. SymbolRun hold (names_among bytes.now tokens.now) symbols.plain.texts symbols.plain.created symbols.window.items symbols.counts) }
+{
+    let mut plain = Plain::new(alloc, Kind::Counted);
+    let mut window = HeapCircularBuffer::with_capacity(alloc, hold)?;
+    let mut counts = SymbolCounts {
+        created: 0,
+        taken: 0,
+        dropped: 0,
+    };
+    for token in tokens {
+        hold_token(&mut plain, &mut window, &mut counts, bytes, *token)?;
+    }
+    Ok(Symbols {
+        plain,
+        window,
+        counts,
+    })
+}
