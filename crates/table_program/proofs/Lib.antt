@@ -16,3 +16,4 @@ pub mod Settling
 pub mod Pushes
 pub mod SymbolSteps
 pub mod SymbolNames
+pub mod TokenSizes

@@ -44,21 +44,13 @@ fn literal_tokens(alloc: Global, tokens: &[Token]) -> Result<Vec<Token>, AllocEr
         .collect(alloc)
 }
 
-/// The text of a token.
-fn text_at(bytes: &[u8], token: Token) -> &[u8]
-    requires { IsWithin bytes.now token }
-    ensures { result.now ≡ text_of bytes.now token }
-{
-    &bytes[token.start..token.end]
-}
-
 /// Whether the text is that of one of the literals. It compares the text with each of them.
 fn is_among(bytes: &[u8], literals: &[Token], text: &[u8]) -> bool
     requires { All (IsWithin bytes.now) literals.now }
     ensures { result ≡ is_among_texts (map (text_of bytes.now) literals.now) text.now }
 {
     for literal in literals {
-        if text == text_at(bytes, *literal) {
+        if text == literal.text(bytes) {
             return true;
         }
     }
@@ -83,7 +75,7 @@ fn intern_literal(
         → StringRun literals plain.old.texts plain.old.created (pairs_of bytes.now made.old.items)
         → StringRun (literals ++ text_of bytes.now literal ∷ []) plain.new.texts plain.new.created (pairs_of bytes.now made.new.items)) }
 {
-    match plain.intern(text_at(bytes, literal))? {
+    match plain.intern(literal.text(bytes))? {
         PlainInterned::Created(handle) => {
             made.push(MadeEntry { literal, handle })?;
             Ok(())
@@ -126,7 +118,7 @@ fn list_entry(plain: &mut Plain, bytes: &[u8], final_literals: &[Token], entry: 
         → StringListing (map (text_of bytes.now) final_literals.now) literals
         (pairs_of bytes.now (listed ++ entry ∷ [])) (pairs_of bytes.now left) plain.new.texts plain.new.created (killed + (if result then 1 else 0)) }
 {
-    if is_among(bytes, final_literals, text_at(bytes, entry.literal)) {
+    if is_among(bytes, final_literals, entry.literal.text(bytes)) {
         return false;
     }
     plain.kill(entry.handle)
