@@ -1,9 +1,7 @@
-use Rattle.std.proofs.Common.{◌≡◌, ◌≤◌, ◌-◌, [], length, map, refl, ◌∙◌, arith}
+use Rattle.std.proofs.Common.{◌≡◌, ◌-◌, length, map, refl, arith}
 use Rattle.std.proofs.lemmas.List.{length-map}
-use Rattle.intern_log.specs.Finals.{finals}
 use Rattle.table_program.specs.FileTexts.{text_of}
 use Rattle.table_program.specs.MadeEntries.{pairs_of}
-use Rattle.table_program.specs.StringRun.{StringListing}
 use Rattle.table_program.proofs.StringCode.{all_listed}
 use Rattle.table_program.proofs.StringTotals.{created_within_listing, strings_are}
 use Rattle.table_program.proofs.literals.intern_and_list.Goals as goal
