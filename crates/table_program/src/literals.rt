@@ -174,10 +174,10 @@ fn intern_and_list(
         made.as_slice(),
     );
     let literals = literals.len() as u64;
-    let created = plain.created();
+    let entries = plain.created();
     let counts = StringCounts {
-        created,
-        found: literals - created,
+        created: entries,
+        found: literals - entries,
         killed,
     };
     Ok(Strings {
