@@ -1,5 +1,5 @@
 -- A map that has each of a list of entries once, as it grows and as entries are killed.
-use Rattle.std.proofs.Common.{◌≡◌, ℕ, ◌+◌, ◌≤◌, Bool, true, false, cond, List, [], ◌∷◌, ◌++◌, Option, Some, None, refl, sym, ap, subst, ◌∙◌, arith}
+use Rattle.std.proofs.Common.{◌≡◌, ℕ, ◌≤◌, Bool, true, false, cond, List, [], ◌∷◌, ◌++◌, Option, Some, None, refl, sym, ap, subst, ◌∙◌, arith}
 use Rattle.std.specs.Prelude.{MatchOption}
 use Rattle.std.specs.Str.{bytes_eq}
 use Rattle.std.specs.Option.{option_and_then}
@@ -14,7 +14,7 @@ use Rattle.intern_log.specs.TextMap.{TextMap, no_texts, entry_of, handle_eq, at_
 use Rattle.intern_log.specs.Log.{next, HandlesDiffer}
 use Rattle.intern_log.proofs.Entries.{entry_of-next}
 use Rattle.intern_log.proofs.Handles.{handle_eq-Decides}
-use Rattle.table_program.specs.Holding.{Held, times_held, Counts, Holds}
+use Rattle.table_program.specs.Holding.{Held, times_held, Counts}
 use Rattle.table_program.specs.StringRun.{HasEach}
 use Rattle.table_program.proofs.Holds.{times_held-push, times_held-cons, IsHeldAs-push, not_true, not_same, front_has, Holds-create}
 

@@ -6,7 +6,7 @@ use Rattle.std.specs.Str.{bytes_eq}
 use Rattle.std.proofs.lemmas.List.{take_more, map-append, length-map, get_or-map}
 use Rattle.std.proofs.lemmas.List.Folds.{list_any_at}
 use Rattle.intern_log.specs.declared.event.Handle.{Handle}
-use Rattle.intern_log.specs.declared.event.Kind.TheVariants.{Counted, Weak}
+use Rattle.intern_log.specs.declared.event.Kind.TheVariants.{Weak}
 use Rattle.intern_log.specs.declared.event.What.TheVariants.{Kill}
 use Rattle.intern_log.specs.declared.text.TheConstants.{MAX_TEXT}
 use Rattle.intern_log.specs.TextMap.{TextMap, IsLive}

@@ -1,14 +1,13 @@
 -- One more literal, and one more entry of the listing.
-use Rattle.std.proofs.Common.{◌≡◌, ℕ, ◌+◌, Bool, true, false, cond, List, [], ◌∷◌, ◌++◌, Option, Some, None, length, filter, refl, sym, ap, subst, ◌∙◌, inl, inr, arith, append-nil, append_assoc, length-append, add-zero, ◌||◌}
+use Rattle.std.proofs.Common.{◌≡◌, ℕ, ◌+◌, Bool, true, false, cond, List, [], ◌∷◌, ◌++◌, Some, None, length, refl, sym, ap, subst, ◌∙◌, inl, inr, append-nil, append_assoc, length-append, add-zero, ◌||◌}
 use Rattle.std.specs.Prelude.{is_some}
-use Rattle.std.specs.List.{list_any, filter_map, cons_option}
+use Rattle.std.specs.List.{filter_map, cons_option}
 use Rattle.std.specs.Str.{bytes_eq}
 use Rattle.std.proofs.lemmas.Bool.{or_left}
 use Rattle.std.proofs.lemmas.List.{map-append}
 use Rattle.std.proofs.lemmas.List.Elements.{filter_map-append, filter-append}
 use Rattle.std.proofs.lemmas.Slice.Eq.{bytes_eq-Decides}
 use Rattle.intern_log.specs.declared.event.Handle.{Handle}
-use Rattle.intern_log.specs.declared.event.What.{What}
 use Rattle.intern_log.specs.declared.event.What.TheVariants.{Create, Found, Kill}
 use Rattle.intern_log.specs.TextMap.{TextMap, no_texts, entry_of, HasHandle, IsLive}
 use Rattle.intern_log.specs.Log.{next, Allows, HandlesDiffer}
@@ -16,7 +15,7 @@ use Rattle.intern_log.specs.Finals.{is_among_texts}
 use Rattle.intern_log.specs.PlainLogs.{slot_handle}
 use Rattle.intern_log.proofs.Handles.{live_handles_differ_lem}
 use Rattle.intern_log.proofs.PlainLogLaws.{IsLiteralList-push}
-use Rattle.table_program.specs.Holding.{Held, Holds}
+use Rattle.table_program.specs.Holding.{Held}
 use Rattle.table_program.specs.OneSeatLog.{OneSeatLog}
 use Rattle.table_program.specs.SymbolRun.{held_texts}
 use Rattle.table_program.specs.StringRun.{made_by, made_in, HasEach, StringRun, kept_among, kill_for, kills_among, StringListing}

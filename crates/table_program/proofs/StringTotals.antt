@@ -1,6 +1,6 @@
 -- What holds once all entries are listed.
-use Rattle.std.proofs.Common.{◌≡◌, ℕ, zero, suc, ◌+◌, ◌-◌, ◌≤◌, Bool, true, false, cond, List, [], ◌∷◌, ◌++◌, Option, Some, None, length, drop, filter, map, count_by, refl, sym, ap, subst, ◌∙◌, ◌⊎◌, inl, inr, arith, append-nil, zero-add, ◌||◌, ◌&&◌}
-use Rattle.std.specs.List.{filter_map, cons_option}
+use Rattle.std.proofs.Common.{◌≡◌, ℕ, zero, suc, ◌+◌, ◌-◌, ◌≤◌, Bool, true, false, cond, List, [], ◌∷◌, ◌++◌, Option, Some, None, length, drop, count_by, refl, sym, ap, subst, ◌∙◌, inl, inr, arith, append-nil, zero-add, ◌||◌, ◌&&◌}
+use Rattle.std.specs.List.{cons_option}
 use Rattle.std.specs.Option.{option_and_then}
 use Rattle.std.specs.Str.{bytes_eq}
 use Rattle.std.proofs.lemmas.Bool.{and_right, or_left, or_right}
@@ -8,7 +8,7 @@ use Rattle.std.proofs.lemmas.List.Sums.{sum_by-cons, sum_by-append}
 use Rattle.std.proofs.lemmas.Slice.Eq.{bytes_eq-Decides}
 use Rattle.intern_log.specs.declared.event.Handle.{Handle}
 use Rattle.intern_log.specs.declared.event.What.{What}
-use Rattle.intern_log.specs.declared.event.What.TheVariants.{Create, Found, Kill}
+use Rattle.intern_log.specs.declared.event.What.TheVariants.{Create, Kill}
 use Rattle.intern_log.specs.TextMap.{TextMap}
 use Rattle.intern_log.specs.Counts.{is_create, is_found, is_kill, events_in}
 use Rattle.intern_log.specs.Finals.{finals, is_among_texts}
@@ -16,7 +16,6 @@ use Rattle.intern_log.specs.Window.{by_seat, IsWeakIntern, IsLiteralList}
 use Rattle.intern_log.specs.PlainLogs.{IsNumberedFrom, slots_taken, kill_of, kills_of}
 use Rattle.table_program.specs.declared.table_report.StringCounts.{StringCounts}
 use Rattle.table_program.specs.Holding.{Held}
-use Rattle.table_program.specs.PlainReport.{string_counts}
 use Rattle.table_program.specs.SymbolRun.{held_texts}
 use Rattle.table_program.specs.StringRun.{made_by, made_in, kept_among, kill_for, kills_among, StringRun, StringListing, IsStringsOf}
 use Rattle.table_program.proofs.LiveTexts.{live_texts_are, held_are_live}

@@ -7,9 +7,9 @@ pub mod PlainReport
 pub mod Holding
 pub mod OneSeatLog
 pub mod SymbolRun
-pub mod Symbols
 pub mod StringRun
 pub mod MadeEntries
+pub mod Symbols
 pub mod Notes
 pub mod Writing
 pub mod Words

@@ -1,12 +1,33 @@
--- The entries that interns of literals made, as texts with their handles.
-use Rattle.std.specs.Prelude.{ℕ, List, map}
+-- The entries that interns of a file's literals made, and how far the code has come with them.
+use Rattle.std.specs.Prelude.{ℕ, List, map, All}
+use Rattle.plain_interner.specs.State.{State}
 use Rattle.table_program.specs.declared.literals.MadeEntry.{MadeEntry}
+use Rattle.table_program.specs.declared.name_scan.Token.{Token}
 use Rattle.table_program.specs.FileTexts.{text_of}
 use Rattle.table_program.specs.Holding.{Held}
+use Rattle.table_program.specs.Places.{IsWithin}
+use Rattle.table_program.specs.StringRun.{StringRun, StringListing}
 
--- the text of the literal that the entry was made for, with the entry's handle
+-- the texts of tokens
+abbrev pub texts_of : List ℕ → List Token → List (List ℕ)
+texts_of bytes tokens = map (text_of bytes) tokens
+
+-- the text of the literal that an entry was made for, with the entry's handle
 abbrev pub pair_of : List ℕ → MadeEntry → Held
 pair_of bytes entry = (text_of bytes entry.literal, entry.handle)
 
 abbrev pub pairs_of : List ℕ → List MadeEntry → List Held
 pairs_of bytes entries = map (pair_of bytes) entries
+
+-- the literals that the entries were made for lie within the bytes
+abbrev pub AreWithin : List ℕ → List MadeEntry → Type 0
+AreWithin bytes entries = All (λ (entry : MadeEntry). IsWithin bytes entry.literal) entries
+
+-- the interner is the one after one intern of each of the literals, which made these entries
+abbrev pub IsLiteralRun : List ℕ → List (List ℕ) → State → List MadeEntry → Type 0
+IsLiteralRun bytes literals state made = StringRun literals state.texts state.created (pairs_of bytes made)
+
+-- the interner is the one after the listing has come that far: so many of the listed entries were killed, since they are not of final literals, and the others are left
+abbrev pub IsListing : List ℕ → List Token → List (List ℕ) → List MadeEntry → List MadeEntry → State → ℕ → Type 0
+IsListing bytes final_literals literals listed left state killed =
+    StringListing (texts_of bytes final_literals) literals (pairs_of bytes listed) (pairs_of bytes left) state.texts state.created killed

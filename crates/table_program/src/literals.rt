@@ -1,11 +1,11 @@
 //! Interns the literals of a file, and kills those that are not among the last.
-ghost use Rattle.std.specs.Prelude.{◌≡◌, ℕ, ◌+◌, ◌-◌, ◌^◌, ◌<◌, ◌≤◌, List, [], ◌∷◌, ◌++◌, length, map, filter, All, IfOk, OnOk, if◌then◌else◌};
+ghost use Rattle.std.specs.Prelude.{◌≡◌, ℕ, ◌+◌, ◌-◌, ◌^◌, ◌<◌, ◌≤◌, List, [], ◌∷◌, ◌++◌, length, filter, All, IfOk, OnOk, if◌then◌else◌};
 ghost use Rattle.intern_log.specs.TextMap.{no_texts};
 ghost use Rattle.intern_log.specs.Finals.{finals, is_among_texts};
 ghost use Rattle.table_program.specs.FileTexts.{is_literal, text_of, literals_among};
 ghost use Rattle.table_program.specs.Places.{IsWithin};
-ghost use Rattle.table_program.specs.MadeEntries.{pairs_of};
-ghost use Rattle.table_program.specs.StringRun.{StringRun, StringListing, IsStringsOf};
+ghost use Rattle.table_program.specs.MadeEntries.{texts_of, AreWithin, IsLiteralRun, IsListing};
+ghost use Rattle.table_program.specs.StringRun.{IsStringsOf};
 ghost use Rattle.table_program.specs.declared.literals.MadeEntry.{MadeEntry};
 
 use crate::name_scan::{Token, TokenKind};
@@ -47,7 +47,7 @@ fn literal_tokens(alloc: Global, tokens: &[Token]) -> Result<Vec<Token>, AllocEr
 /// Whether the text is that of one of the literals. It compares the text with each of them.
 fn is_among(bytes: &[u8], literals: &[Token], text: &[u8]) -> bool
     requires { All (IsWithin bytes.now) literals.now }
-    ensures { result ≡ is_among_texts (map (text_of bytes.now) literals.now) text.now }
+    ensures { result ≡ is_among_texts (texts_of bytes.now literals.now) text.now }
 {
     for literal in literals {
         if text == literal.text(bytes) {
@@ -69,11 +69,10 @@ fn intern_literal(
     requires room { plain.old.created < 2 ^ 32 - 1 }
     requires weak { plain.old.kind ≡ Kind.Weak }
     ensures weak { OnOk result (plain.new.kind ≡ Kind.Weak) }
-    ensures within { OnOk result (All (λ entry. IsWithin bytes.now entry.literal) made.old.items
-        → All (λ entry. IsWithin bytes.now entry.literal) made.new.items) }
-    ensures run { OnOk result ((literals : List (List ℕ))
-        → StringRun literals plain.old.texts plain.old.created (pairs_of bytes.now made.old.items)
-        → StringRun (literals ++ text_of bytes.now literal ∷ []) plain.new.texts plain.new.created (pairs_of bytes.now made.new.items)) }
+    ensures within { OnOk result (AreWithin bytes.now made.old.items → AreWithin bytes.now made.new.items) }
+    ensures run { OnOk result ((literals : List (List ℕ)) →
+        IsLiteralRun bytes.now literals plain.old made.old.items →
+        IsLiteralRun bytes.now (literals ++ text_of bytes.now literal ∷ []) plain.new made.new.items) }
 {
     match plain.intern(literal.text(bytes))? {
         PlainInterned::Created(handle) => {
@@ -96,8 +95,8 @@ fn intern_each(
     requires short { All (λ t. length (text_of bytes.now t) ≤ MAX_TEXT) literals.now }
     requires few { length literals.now < 2 ^ 32 - 1 }
     ensures weak { OnOk result (plain.new.kind ≡ Kind.Weak) }
-    ensures within { IfOk result (λ made. All (λ entry. IsWithin bytes.now entry.literal) made.items) }
-    ensures run { IfOk result (λ made. StringRun (map (text_of bytes.now) literals.now) plain.new.texts plain.new.created (pairs_of bytes.now made.items)) }
+    ensures within { IfOk result (λ made. AreWithin bytes.now made.items) }
+    ensures run { IfOk result (λ made. IsLiteralRun bytes.now (texts_of bytes.now literals.now) plain.new made.items) }
 {
     let mut made = Vec::new(alloc);
     for literal in literals {
@@ -112,11 +111,10 @@ fn list_entry(plain: &mut Plain, bytes: &[u8], final_literals: &[Token], entry: 
     requires finals_within { All (IsWithin bytes.now) final_literals.now }
     requires weak { plain.old.kind ≡ Kind.Weak }
     ensures weak { plain.new.kind ≡ Kind.Weak }
-    ensures listing { (literals : List (List ℕ)) (listed left : List MadeEntry) (killed : ℕ)
-        → StringListing (map (text_of bytes.now) final_literals.now) literals
-        (pairs_of bytes.now listed) (pairs_of bytes.now (entry ∷ left)) plain.old.texts plain.old.created killed
-        → StringListing (map (text_of bytes.now) final_literals.now) literals
-        (pairs_of bytes.now (listed ++ entry ∷ [])) (pairs_of bytes.now left) plain.new.texts plain.new.created (killed + (if result then 1 else 0)) }
+    ensures listing { (literals : List (List ℕ)) (listed left : List MadeEntry) (killed : ℕ) →
+        IsListing bytes.now final_literals.now literals listed (entry ∷ left) plain.old killed →
+        IsListing bytes.now final_literals.now literals (listed ++ entry ∷ []) left plain.new
+        (killed + (if result then 1 else 0)) }
 {
     if is_among(bytes, final_literals, entry.literal.text(bytes)) {
         return false;
@@ -132,14 +130,12 @@ fn list_entries(
     final_literals: &[Token],
     made: &[MadeEntry],
 ) -> u64
-    requires within { All (λ entry. IsWithin bytes.now entry.literal) made.now }
+    requires within { AreWithin bytes.now made.now }
     requires finals_within { All (IsWithin bytes.now) final_literals.now }
     requires weak { plain.old.kind ≡ Kind.Weak }
-    ensures listing { (literals : List (List ℕ))
-        → StringListing (map (text_of bytes.now) final_literals.now) literals
-        [] (pairs_of bytes.now made.now) plain.old.texts plain.old.created 0
-        → StringListing (map (text_of bytes.now) final_literals.now) literals
-        (pairs_of bytes.now made.now) [] plain.new.texts plain.new.created result }
+    ensures listing { (literals : List (List ℕ)) →
+        IsListing bytes.now final_literals.now literals [] made.now plain.old 0 →
+        IsListing bytes.now final_literals.now literals made.now [] plain.new result }
 {
     let mut killed = 0;
     for entry in made {
@@ -165,7 +161,8 @@ fn intern_and_list(
     requires within { All (IsWithin bytes.now) literals.now }
     requires short { All (λ t. length (text_of bytes.now t) ≤ MAX_TEXT) literals.now }
     requires few { length literals.now < 2 ^ 32 - 1 }
-    ensures strings { IfOk result (λ strings. IsStringsOf hold (map (text_of bytes.now) literals.now) strings.plain.texts strings.counts) }
+    ensures strings { IfOk result (λ strings.
+        IsStringsOf hold (texts_of bytes.now literals.now) strings.plain.texts strings.counts) }
     ensures literals { IfOk result (λ strings. strings.literals ≡ length literals.now) }
 {
     let mut plain = Plain::new(alloc, Kind::Weak);
@@ -177,10 +174,10 @@ fn intern_and_list(
         made.as_slice(),
     );
     let literals = literals.len() as u64;
-    let created = plain.created();
+    let entries = plain.created();
     let counts = StringCounts {
-        created,
-        found: literals - created,
+        created: entries,
+        found: literals - entries,
         killed,
     };
     Ok(Strings {
@@ -202,8 +199,10 @@ pub(crate) fn intern_literals(
     requires within { All (IsWithin bytes.now) tokens.now }
     requires short { All (λ text. length text ≤ MAX_TEXT) (literals_among bytes.now tokens.now) }
     requires few { length (literals_among bytes.now tokens.now) < 2 ^ 32 - 1 }
-    ensures strings { IfOk result (λ strings. IsStringsOf hold (literals_among bytes.now tokens.now) strings.plain.texts strings.counts) }
-    ensures literals { IfOk result (λ strings. strings.literals ≡ length (literals_among bytes.now tokens.now)) }
+    ensures strings { IfOk result (λ strings.
+        IsStringsOf hold (literals_among bytes.now tokens.now) strings.plain.texts strings.counts) }
+    ensures literals { IfOk result (λ strings.
+        strings.literals ≡ length (literals_among bytes.now tokens.now)) }
 {
     let literals = literal_tokens(alloc, tokens)?;
     intern_and_list(alloc, bytes, literals.as_slice(), hold)
@@ -212,12 +211,16 @@ pub(crate) fn intern_literals(
 #[cfg(test)]
 mod tests {
     use super::*;
-    use crate::name_scan::scan;
+    use crate::name_scan::{laws, scan};
 
     #[test]
     fn keeps_the_last_literals(rt: HostRuntime) -> Result<(), AllocError> {
         let bytes = b"\"a\" \"b\" \"a\" \"c\" \"b\"";
         let tokens = scan(rt.alloc(), bytes)?;
+        laws::tokens_are_within();
+        laws::tokens_are_no_more_than_bytes();
+        laws::literals_are_no_more_than_tokens();
+        laws::literals_are_no_longer_than_bytes();
         let strings = intern_literals(rt.alloc(), bytes, tokens.as_slice(), 2)?;
         assert_eq!(rt; strings.literals, 5);
         assert_eq!(rt; strings.counts.created, 3);

@@ -192,8 +192,6 @@ mod tests {
         laws::tokens_are_in_order();
         laws::tokens_are_in_place();
         laws::tokens_are_no_more_than_bytes();
-        laws::literals_are_no_more_than_tokens();
-        laws::literals_are_no_longer_than_bytes();
     }
 
     #[test]

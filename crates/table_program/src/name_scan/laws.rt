@@ -3,7 +3,6 @@ ghost use Rattle.std.specs.Prelude.{◌≡◌, ◌≤◌, ℕ, List, length, All
 ghost use Rattle.std.specs.List.{AllPairs};
 ghost use Rattle.table_program.specs.declared.name_scan.Piece.{Piece};
 ghost use Rattle.table_program.specs.declared.name_scan.Token.{Token};
-ghost use Rattle.table_program.specs.FileTexts.{literals_among};
 ghost use Rattle.table_program.specs.Pieces.{IsCut};
 ghost use Rattle.table_program.specs.Tokens.{pieces, tokens_at, tokens};
 ghost use Rattle.table_program.specs.Places.{IsWithin, EndsBefore, IsKindAt};
@@ -42,14 +41,4 @@ pub fn tokens_are_in_place()
 /// There are no more tokens than bytes.
 pub fn tokens_are_no_more_than_bytes()
     ensures law { (bs : List ℕ) → length (tokens bs) ≤ length bs }
-{}
-
-/// There are no more literals among tokens than tokens.
-pub fn literals_are_no_more_than_tokens()
-    ensures law { (bs : List ℕ) (found : List Token) → length (literals_among bs found) ≤ length found }
-{}
-
-/// No literal is longer than the bytes.
-pub fn literals_are_no_longer_than_bytes()
-    ensures law { (bs : List ℕ) (found : List Token) (most : ℕ) → length bs ≤ most → All (λ text. length text ≤ most) (literals_among bs found) }
 {}

@@ -1,4 +1,4 @@
-use Rattle.std.proofs.Common.{◌≡◌, ℕ, List, [], length, map, take, subst, sym, ap, arith, length-take, All}
+use Rattle.std.proofs.Common.{◌≡◌, List, [], take, subst, sym, ap, arith, length-take, All}
 use Rattle.std.proofs.lemmas.List.{length-map}
 use Rattle.std.proofs.lemmas.List.Elements.{All-nil}
 use Rattle.intern_log.specs.declared.event.Kind.TheVariants.{Weak}

@@ -1,8 +1,5 @@
-use Rattle.std.proofs.Common.{sym, ◌∙◌, ap, map, get_or}
+use Rattle.std.proofs.Common.{sym, ◌∙◌, ap}
 use Rattle.std.specs.Str.{bytes_eq}
-use Rattle.std.proofs.lemmas.List.{get_or-map}
-use Rattle.std.proofs.lemmas.List.Folds.{list_any_at}
-use Rattle.table_program.specs.FileTexts.{text_of}
 use Rattle.table_program.proofs.StringCode.{among_at}
 use Rattle.table_program.proofs.literals.is_among.Goals as goal
 
