@@ -5,18 +5,19 @@ use Rattle.std.specs.List.{flat_map}
 use Rattle.intern_log.specs.Finals.{finals, distinct_texts}
 use Rattle.plain_interner.specs.State.{references_of}
 use Rattle.intern_log.specs.TextMap.{TextMap, live_texts}
-use Rattle.table_program.specs.declared.table_report.Report.{Report}
-use Rattle.table_program.specs.declared.table_report.Statistics2.{Statistics2}
-use Rattle.table_program.specs.declared.table_report.SymbolCounts.{SymbolCounts}
-use Rattle.table_program.specs.declared.table_report.StringCounts.{StringCounts}
-use Rattle.table_program.specs.FileTexts.{names_of, literals_of}
-use Rattle.table_program.specs.Places.{IsWithin}
-use Rattle.table_program.specs.PlainReport.{settled, symbol_load, string_load, report_of, report, plain_hold, plain_min_level, plain_max_level, IsSymbolsOf, IsPlainReport}
-use Rattle.table_program.specs.Report.{report_lines}
+use Rattle.table_report.specs.declared.Report.{Report}
+use Rattle.table_report.specs.declared.Statistics2.{Statistics2}
+use Rattle.table_report.specs.declared.SymbolCounts.{SymbolCounts}
+use Rattle.table_report.specs.declared.StringCounts.{StringCounts}
+use Rattle.name_scan.specs.FileTexts.{names_of, literals_of}
+use Rattle.name_scan.specs.Places.{IsWithin}
+use Rattle.table_report.specs.FileReport.{settled, symbol_load, string_load, report_of, report, plain_hold, plain_min_level, plain_max_level, IsPlainReport}
+use Rattle.table_program.specs.Symbols.{IsSymbolsOf}
+use Rattle.table_report.specs.Report.{report_lines}
 use Rattle.table_program.specs.StringRun.{IsStringsOf}
-use Rattle.table_program.specs.Tokens.{tokens, pieces}
-use Rattle.table_program.proofs.Cuts.{pieces_cut}
-use Rattle.table_program.proofs.Standing.{within_bytes}
+use Rattle.name_scan.specs.Tokens.{tokens, pieces}
+use Rattle.name_scan.proofs.Cuts.{pieces_cut}
+use Rattle.name_scan.proofs.Standing.{within_bytes}
 
 -- each token of a file lies within its bytes
 pub tokens_within : (bs : List ℕ) → All (IsWithin bs) (tokens bs)

@@ -1,9 +1,3 @@
-pub mod Texts
-pub mod Cuts
-pub mod Scans
-pub mod Standing
-pub mod TokenSizes
-pub mod ReportLemmas
 pub mod Written
 pub mod FinalItems
 pub mod Holds

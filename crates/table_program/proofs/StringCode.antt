@@ -16,8 +16,8 @@ use Rattle.plain_interner.specs.declared.plain.PlainInterned.{PlainInterned}
 use Rattle.plain_interner.specs.declared.plain.PlainInterned.TheVariants.{Created, Taken, Found}
 use Rattle.plain_interner.specs.State.{State, Follows, event_of, HasNewSlot, IsOfKind}
 use Rattle.table_program.specs.declared.literals.MadeEntry.{MadeEntry}
-use Rattle.table_program.specs.declared.name_scan.Token.{Token}
-use Rattle.table_program.specs.FileTexts.{text_of}
+use Rattle.name_scan.specs.declared.Token.{Token}
+use Rattle.name_scan.specs.FileTexts.{text_of}
 use Rattle.table_program.specs.Holding.{Held}
 use Rattle.table_program.specs.MadeEntries.{pair_of, pairs_of}
 use Rattle.table_program.specs.StringRun.{StringRun, StringListing}

@@ -14,7 +14,7 @@ use Rattle.intern_log.specs.Counts.{is_create, is_found, is_kill, events_in}
 use Rattle.intern_log.specs.Finals.{finals, is_among_texts}
 use Rattle.intern_log.specs.Window.{by_seat, IsWeakIntern, IsLiteralList}
 use Rattle.intern_log.specs.PlainLogs.{IsNumberedFrom, slots_taken, kill_of, kills_of}
-use Rattle.table_program.specs.declared.table_report.StringCounts.{StringCounts}
+use Rattle.table_report.specs.declared.StringCounts.{StringCounts}
 use Rattle.table_program.specs.Holding.{Held}
 use Rattle.table_program.specs.SymbolRun.{held_texts}
 use Rattle.table_program.specs.StringRun.{made_by, made_in, kept_among, kill_for, kills_among, StringRun, StringListing, IsStringsOf}

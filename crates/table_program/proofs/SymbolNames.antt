@@ -14,11 +14,11 @@ use Rattle.intern_log.specs.declared.event.What.{What}
 use Rattle.intern_log.specs.declared.event.What.TheVariants.{Create}
 use Rattle.intern_log.specs.TextMap.{TextMap, no_texts}
 use Rattle.intern_log.specs.PlainLogs.{slots_taken}
-use Rattle.table_program.specs.declared.name_scan.Token.{Token}
-use Rattle.table_program.specs.FileTexts.{is_name, text_of, names_among}
+use Rattle.name_scan.specs.declared.Token.{Token}
+use Rattle.name_scan.specs.FileTexts.{is_name, text_of, names_among}
 use Rattle.table_program.specs.Holding.{times_held, Counts, Holds}
 use Rattle.plain_interner.specs.State.{State, Follows}
-use Rattle.table_program.specs.declared.table_report.SymbolCounts.{SymbolCounts}
+use Rattle.table_report.specs.declared.SymbolCounts.{SymbolCounts}
 use Rattle.table_program.specs.SymbolRun.{SymbolRun, NameInterned}
 use Rattle.table_program.specs.Symbols.{InternsName, NamesSoFar}
 

@@ -18,7 +18,7 @@ use Rattle.intern_log.specs.PlainLogs.{IsNumbered, IsNumberedFrom, slots_taken}
 use Rattle.intern_log.proofs.Logs.{map_after-append, IsLegalFrom-append, IsLegal-push, by_seat-append}
 use Rattle.intern_log.proofs.Handles.{HandlesDiffer-next, live_handles_differ_lem}
 use Rattle.intern_log.proofs.PlainLogLaws.{IsWindowRun-push, IsNumberedFrom-append}
-use Rattle.table_program.specs.declared.table_report.SymbolCounts.{SymbolCounts}
+use Rattle.table_report.specs.declared.SymbolCounts.{SymbolCounts}
 use Rattle.table_program.specs.Holding.{Held, Holds}
 use Rattle.table_program.specs.OneSeatLog.{OneSeatLog}
 use Rattle.table_program.specs.SymbolRun.{held_texts, held_handles, CountsOf, CountsOneMore, SymbolRun, NameInterned}

@@ -10,10 +10,10 @@ use Rattle.intern_log.specs.TextMap.{TextMap}
 use Rattle.intern_log.specs.Counts.{events_in, is_create, is_take, is_drop}
 use Rattle.intern_log.specs.Finals.{finals, distinct_texts}
 use Rattle.intern_log.specs.Window.{by_seat}
-use Rattle.table_program.specs.declared.table_report.SymbolCounts.{SymbolCounts}
+use Rattle.table_report.specs.declared.SymbolCounts.{SymbolCounts}
 use Rattle.table_program.specs.Holding.{Held}
 use Rattle.table_program.specs.SymbolRun.{held_texts, held_handles, SymbolRun}
-use Rattle.table_program.specs.PlainReport.{IsSymbolsOf}
+use Rattle.table_program.specs.Symbols.{IsSymbolsOf}
 use Rattle.table_program.proofs.FinalItems.{finals-map, length-finals}
 use Rattle.table_program.proofs.LiveTexts.{live_texts_are_held}
 use Rattle.table_program.proofs.References.{references_are}

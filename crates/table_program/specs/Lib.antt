@@ -1,9 +1,3 @@
-pub mod Pieces
-pub mod Tokens
-pub mod Places
-pub mod FileTexts
-pub mod Report
-pub mod PlainReport
 pub mod Holding
 pub mod OneSeatLog
 pub mod SymbolRun

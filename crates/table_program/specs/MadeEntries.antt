@@ -2,10 +2,10 @@
 use Rattle.std.specs.Prelude.{ℕ, List, map, All}
 use Rattle.plain_interner.specs.State.{State}
 use Rattle.table_program.specs.declared.literals.MadeEntry.{MadeEntry}
-use Rattle.table_program.specs.declared.name_scan.Token.{Token}
-use Rattle.table_program.specs.FileTexts.{text_of}
+use Rattle.name_scan.specs.declared.Token.{Token}
+use Rattle.name_scan.specs.FileTexts.{text_of}
 use Rattle.table_program.specs.Holding.{Held}
-use Rattle.table_program.specs.Places.{IsWithin}
+use Rattle.name_scan.specs.Places.{IsWithin}
 use Rattle.table_program.specs.StringRun.{StringRun, StringListing}
 
 -- the texts of tokens

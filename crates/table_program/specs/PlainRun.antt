@@ -8,7 +8,7 @@ use Rattle.table_program.specs.declared.outcome.Note.{Note}
 use Rattle.table_program.specs.declared.outcome.Note.TheVariants as note
 use Rattle.table_program.specs.declared.reading.ReadFault.{ReadFault}
 use Rattle.table_program.specs.declared.reading.ReadFault.TheVariants.{Failed, TooLong, OutOfMemory}
-use Rattle.table_program.specs.PlainReport.{IsPlainReport}
+use Rattle.table_report.specs.FileReport.{IsPlainReport}
 use Rattle.table_program.specs.Words.{plain_name}
 use Rattle.table_program.specs.Writing.{WritesPart}
 

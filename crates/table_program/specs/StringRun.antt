@@ -9,10 +9,10 @@ use Rattle.intern_log.specs.Log.{map_of}
 use Rattle.intern_log.specs.Finals.{finals, is_among_texts, distinct_texts}
 use Rattle.intern_log.specs.Window.{IsLiteralList}
 use Rattle.intern_log.specs.PlainLogs.{IsPlainStringLog}
-use Rattle.table_program.specs.declared.table_report.StringCounts.{StringCounts}
+use Rattle.table_report.specs.declared.StringCounts.{StringCounts}
 use Rattle.table_program.specs.Holding.{Held, times_held, Holds}
 use Rattle.table_program.specs.OneSeatLog.{OneSeatLog}
-use Rattle.table_program.specs.PlainReport.{string_counts}
+use Rattle.table_report.specs.FileReport.{string_counts}
 use Rattle.table_program.specs.SymbolRun.{held_texts}
 
 -- the entry that an event made: its text and its handle

@@ -9,7 +9,7 @@ use Rattle.intern_log.specs.Counts.{is_create, is_take, is_drop}
 use Rattle.intern_log.specs.Finals.{finals}
 use Rattle.intern_log.specs.Window.{IsCountedIntern, IsWindowRun}
 use Rattle.intern_log.specs.PlainLogs.{IsNumbered, slots_taken}
-use Rattle.table_program.specs.declared.table_report.SymbolCounts.{SymbolCounts}
+use Rattle.table_report.specs.declared.SymbolCounts.{SymbolCounts}
 use Rattle.table_program.specs.Holding.{Held, Holds}
 use Rattle.table_program.specs.OneSeatLog.{OneSeatLog}
 

@@ -2,17 +2,17 @@
 ghost use Rattle.std.specs.Prelude.{◌≡◌, ℕ, ◌+◌, ◌-◌, ◌^◌, ◌<◌, ◌≤◌, List, [], ◌∷◌, ◌++◌, length, filter, All, IfOk, OnOk, if◌then◌else◌};
 ghost use Rattle.intern_log.specs.TextMap.{no_texts};
 ghost use Rattle.intern_log.specs.Finals.{finals, is_among_texts};
-ghost use Rattle.table_program.specs.FileTexts.{is_literal, text_of, literals_among};
-ghost use Rattle.table_program.specs.Places.{IsWithin};
+ghost use Rattle.name_scan.specs.FileTexts.{is_literal, text_of, literals_among};
+ghost use Rattle.name_scan.specs.Places.{IsWithin};
 ghost use Rattle.table_program.specs.MadeEntries.{texts_of, AreWithin, IsLiteralRun, IsListing};
 ghost use Rattle.table_program.specs.StringRun.{IsStringsOf};
 ghost use Rattle.table_program.specs.declared.literals.MadeEntry.{MadeEntry};
 
-use crate::name_scan::{Token, TokenKind};
-use crate::table_report::StringCounts;
 use intern_log::{Handle, Kind, MAX_TEXT};
+use name_scan::{Token, TokenKind};
 use plain_interner::{Plain, PlainInterned};
 use std::alloc::{AllocError, Global};
+use table_report::StringCounts;
 
 /// The strings of a file: what is left of its literals after all were interned, and those that are
 /// not among the last were killed.
@@ -211,7 +211,7 @@ pub(crate) fn intern_literals(
 #[cfg(test)]
 mod tests {
     use super::*;
-    use crate::name_scan::{laws, scan};
+    use name_scan::{laws, scan};
 
     #[test]
     fn keeps_the_last_literals(rt: HostRuntime) -> Result<(), AllocError> {

@@ -1,19 +1,18 @@
 //! The names of a file: interned in order, the last few of them held.
 ghost use Rattle.std.specs.Prelude.{◌≡◌, ℕ, ◌+◌, ◌-◌, ◌<◌, ◌≤◌, ◌^◌, List, [], ◌∷◌, ◌++◌, length, IfOk, OnOk, All};
 ghost use Rattle.intern_log.specs.declared.text.TheConstants.{MAX_TEXT};
-ghost use Rattle.table_program.specs.declared.name_scan.Token.{Token};
-ghost use Rattle.table_program.specs.FileTexts.{names_among};
-ghost use Rattle.table_program.specs.Places.{IsWithin};
-ghost use Rattle.table_program.specs.PlainReport.{IsSymbolsOf};
+ghost use Rattle.name_scan.specs.declared.Token.{Token};
+ghost use Rattle.name_scan.specs.FileTexts.{names_among};
+ghost use Rattle.name_scan.specs.Places.{IsWithin};
 ghost use Rattle.table_program.specs.SymbolRun.{SymbolRun, NameInterned, IsSymbolWindow, CountsFit};
-ghost use Rattle.table_program.specs.Symbols.{InternsName};
+ghost use Rattle.table_program.specs.Symbols.{InternsName, IsSymbolsOf};
 
-use crate::name_scan::{Token, TokenKind};
-use crate::table_report::SymbolCounts;
 use circular_buffer::HeapCircularBuffer;
 use intern_log::{Handle, Kind};
+use name_scan::{Token, TokenKind};
 use plain_interner::{Plain, PlainInterned};
 use std::alloc::{AllocError, Global};
+use table_report::SymbolCounts;
 
 /// Interns one name, and counts the answer.
 fn intern_name(

@@ -2,15 +2,15 @@
 ghost use Rattle.std.specs.Prelude.{◌≡◌, ◌≤◌, ◌^◌, length, IfOk};
 ghost use Rattle.intern_log.specs.declared.text.TheConstants.{MAX_TEXT};
 ghost use Rattle.intern_log.specs.TextMap.{live_texts};
-ghost use Rattle.table_program.specs.PlainReport as plain_report;
+ghost use Rattle.table_report.specs.FileReport as plain_report;
 
 use crate::literals::intern_literals;
-use crate::name_scan::scan;
 use crate::names::intern_names;
 use crate::settle::settle_level;
-use crate::table_report::{Report, Statistics2, report_text};
+use name_scan::scan;
 use plain_interner::Plain;
 use std::alloc::{AllocError, Global};
+use table_report::{Report, Statistics2, report_text};
 
 /// How many handles of names are held at once.
 const HOLD: usize = 16;

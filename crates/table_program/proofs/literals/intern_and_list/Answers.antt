@@ -1,6 +1,6 @@
 use Rattle.std.proofs.Common.{◌≡◌, ◌-◌, length, map, refl, arith}
 use Rattle.std.proofs.lemmas.List.{length-map}
-use Rattle.table_program.specs.FileTexts.{text_of}
+use Rattle.name_scan.specs.FileTexts.{text_of}
 use Rattle.table_program.specs.MadeEntries.{pairs_of}
 use Rattle.table_program.proofs.StringCode.{all_listed}
 use Rattle.table_program.proofs.StringTotals.{created_within_listing, strings_are}

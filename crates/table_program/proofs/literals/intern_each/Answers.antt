@@ -5,8 +5,8 @@ use Rattle.intern_log.specs.declared.event.Kind.TheVariants.{Weak}
 use Rattle.intern_log.specs.TextMap.{no_texts}
 use Rattle.plain_interner.specs.State.{State}
 use Rattle.table_program.specs.declared.literals.MadeEntry.{MadeEntry}
-use Rattle.table_program.specs.Places.{IsWithin}
-use Rattle.table_program.specs.FileTexts.{text_of}
+use Rattle.name_scan.specs.Places.{IsWithin}
+use Rattle.name_scan.specs.FileTexts.{text_of}
 use Rattle.table_program.specs.MadeEntries.{pairs_of}
 use Rattle.table_program.specs.StringRun.{StringRun}
 use Rattle.table_program.proofs.StringSteps.{StringRun-none}

@@ -1,6 +1,6 @@
 use Rattle.std.proofs.Common.{List, ◌++◌, sym, ap, ◌∙◌, append-nil}
 use Rattle.std.proofs.lemmas.List.{map-append}
-use Rattle.table_program.specs.FileTexts.{text_of}
+use Rattle.name_scan.specs.FileTexts.{text_of}
 use Rattle.table_program.specs.MadeEntries.{pair_of, pairs_of}
 use Rattle.table_program.proofs.StringCode.{made_from, literal_interned, none_made}
 use Rattle.table_program.proofs.literals.intern_literal.Goals as goal

@@ -1,9 +1,9 @@
 use Rattle.std.proofs.Common.{◌≤◌, List, All, length, filter, sym, subst, ◌∙◌}
 use Rattle.std.proofs.lemmas.List.Elements.{All-filter}
 use Rattle.intern_log.specs.declared.text.TheConstants.{MAX_TEXT}
-use Rattle.table_program.specs.declared.name_scan.Token.{Token}
-use Rattle.table_program.specs.FileTexts.{is_literal, text_of}
-use Rattle.table_program.specs.Places.{IsWithin}
+use Rattle.name_scan.specs.declared.Token.{Token}
+use Rattle.name_scan.specs.FileTexts.{is_literal, text_of}
+use Rattle.name_scan.specs.Places.{IsWithin}
 use Rattle.table_program.proofs.StringCode.{short_literals}
 use Rattle.table_program.proofs.literals.intern_literals.Goals as goal
 

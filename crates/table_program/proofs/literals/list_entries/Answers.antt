@@ -1,5 +1,5 @@
 use Rattle.std.proofs.Common.{◌+◌, ◌≤◌, map, arith}
-use Rattle.table_program.specs.FileTexts.{text_of}
+use Rattle.name_scan.specs.FileTexts.{text_of}
 use Rattle.table_program.proofs.StringCode.{byte_within, listing_more}
 use Rattle.table_program.proofs.literals.list_entries.Goals as goal
 

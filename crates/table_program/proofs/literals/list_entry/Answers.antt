@@ -1,7 +1,7 @@
 use Rattle.std.proofs.Common.{ℕ, List, map, sym, ap, ◌∙◌}
 use Rattle.intern_log.specs.Finals.{is_among_texts}
 use Rattle.table_program.specs.declared.literals.MadeEntry.{MadeEntry}
-use Rattle.table_program.specs.FileTexts.{text_of}
+use Rattle.name_scan.specs.FileTexts.{text_of}
 use Rattle.table_program.proofs.StringCode.{listing_kept, listing_killed}
 use Rattle.table_program.proofs.literals.list_entry.Goals as goal
 

@@ -1,7 +1,7 @@
 use Rattle.std.proofs.Common.{◌≡◌, ℕ, ◌+◌, List, arith, refl, sym, subst, ◌∙◌, take, length-take, take_all}
 use Rattle.std.proofs.lemmas.List.{take_more}
-use Rattle.table_program.specs.declared.name_scan.Token.{Token}
-use Rattle.table_program.specs.FileTexts.{names_among}
+use Rattle.name_scan.specs.declared.Token.{Token}
+use Rattle.name_scan.specs.FileTexts.{names_among}
 use Rattle.table_program.specs.SymbolRun.{SymbolRun}
 use Rattle.table_program.specs.Symbols.{NamesSoFar}
 use Rattle.table_program.proofs.SymbolNames.{names_begin, created_few}

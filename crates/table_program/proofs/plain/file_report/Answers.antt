@@ -1,12 +1,13 @@
 use Rattle.std.proofs.Common.{◌≡◌, ℕ, List, All, length, sym, ap, subst, ◌∙◌, arith}
-use Rattle.table_program.specs.declared.name_scan.Token.{Token}
-use Rattle.table_program.specs.FileTexts.{names_among, literals_among, names_of, literals_of}
-use Rattle.table_program.specs.PlainReport.{plain_hold, IsSymbolsOf}
+use Rattle.name_scan.specs.declared.Token.{Token}
+use Rattle.name_scan.specs.FileTexts.{names_among, literals_among, names_of, literals_of}
+use Rattle.table_report.specs.FileReport.{plain_hold}
+use Rattle.table_program.specs.Symbols.{IsSymbolsOf}
 use Rattle.table_program.specs.StringRun.{IsStringsOf}
-use Rattle.table_program.specs.Report.{report_lines}
-use Rattle.table_program.specs.Places.{IsWithin}
+use Rattle.table_report.specs.Report.{report_lines}
+use Rattle.name_scan.specs.Places.{IsWithin}
 use Rattle.table_program.proofs.FileReports.{tokens_within, is_plain_report, told_report, IfOk-weaker}
-use Rattle.table_program.proofs.TokenSizes.{length-tokens, length-literals_among, literals_short}
+use Rattle.name_scan.proofs.TokenSizes.{length-tokens, length-literals_among, literals_short}
 use Rattle.table_program.proofs.plain.file_report.Goals as goal
 
 pub intern_names-requires-clause-within : goal.intern_names-requires-clause-within

@@ -1,0 +1,5 @@
+pub mod Texts
+pub mod Cuts
+pub mod Scans
+pub mod Standing
+pub mod TokenSizes

@@ -1,0 +1,232 @@
+//! Finds the names and literals in a file's bytes.
+//!
+//! The bytes are cut into pieces from the front: a run of name bytes, a literal, or one byte of
+//! neither kind. A run that begins with no digit is a name, and the text of a literal is a literal.
+#![tactic(auto)]
+
+ghost use Rattle.std.specs.Prelude.{◌≡◌, ◌+◌, ◌^◌, ◌<◌, ◌≤◌, length, IfOk, IsTrue, slice_index, slice_range};
+ghost use Rattle.name_scan.specs.Places.{IsWithin};
+ghost use Rattle.name_scan.specs.Pieces.{is_name_byte, piece_len, IsRun, IsLiteralText, EndsText, IsPiece};
+ghost use Rattle.name_scan.specs.Tokens.{token_at, tokens};
+
+use std::alloc::{AllocError, Global};
+
+pub mod laws;
+
+/// The byte before and behind the text of a literal.
+const QUOTE: u8 = b'"';
+
+/// The byte that takes the next one along within a literal.
+const BACKSLASH: u8 = b'\\';
+
+/// The byte that ends a literal which no quote has closed.
+const NEWLINE: u8 = b'\n';
+
+/// What a token stands for.
+#[derive(Clone, Copy, Debug, PartialEq, Eq)]
+pub enum TokenKind {
+    /// A longest run of name bytes that begins with no digit.
+    Name,
+    /// The text of a literal, with its backslashes and without its quotes.
+    Literal,
+}
+
+/// A name or a literal, and the places of its bytes in the file: from `start` up to `end`, which is
+/// the place behind the last one.
+#[derive(Clone, Copy, Debug, PartialEq, Eq)]
+pub struct Token {
+    pub kind: TokenKind,
+    pub start: usize,
+    pub end: usize,
+}
+
+impl Token {
+    /// The bytes of the token, in the bytes of its file.
+    pub fn text(self, bytes: &[u8]) -> &[u8]
+        requires within { IsWithin bytes.now self }
+        ensures text { result.now ≡ slice_range bytes.now self.start self.end }
+    {
+        &bytes[self.start..self.end]
+    }
+}
+
+/// A piece of a file. The numbers are lengths in bytes: of a run, and of a literal's text.
+#[derive(Clone, Copy, Debug, PartialEq, Eq)]
+pub enum Piece {
+    /// One byte that is neither a name byte nor a quote.
+    Skipped,
+    /// A longest run of name bytes that begins with a digit.
+    DigitRun(usize),
+    /// A longest run of name bytes that begins with no digit.
+    NameRun(usize),
+    /// A quote, a text, and the quote that closes it.
+    ClosedLiteral(usize),
+    /// A quote and a text that ends at the file's end or at a newline, which is no part of the piece.
+    OpenLiteral(usize),
+}
+
+impl Piece {
+    /// How many bytes of the file the piece takes up.
+    pub fn len(self) -> usize
+        requires { piece_len self < 2 ^ 64 }
+        ensures { result ≡ piece_len self }
+    {
+        match self {
+            Piece::Skipped => 1,
+            Piece::DigitRun(len) | Piece::NameRun(len) => len,
+            Piece::ClosedLiteral(len) => len + 2,
+            Piece::OpenLiteral(len) => len + 1,
+        }
+    }
+
+    /// The token of the piece where it begins at the place `at` of the file, if it has one.
+    pub fn token(self, at: usize) -> Option<Token>
+        requires { at + piece_len self < 2 ^ 64 }
+        ensures { result ≡ token_at at self }
+    {
+        match self {
+            Piece::Skipped | Piece::DigitRun(_) => None,
+            Piece::NameRun(len) => Some(Token {
+                kind: TokenKind::Name,
+                start: at,
+                end: at + len,
+            }),
+            Piece::ClosedLiteral(len) | Piece::OpenLiteral(len) => {
+                Some(Token {
+                    kind: TokenKind::Literal,
+                    start: at + 1,
+                    end: at + 1 + len,
+                })
+            }
+        }
+    }
+}
+
+/// Whether the byte belongs to a run: a letter or a digit of ASCII, `_`, `$`, or a byte of at least
+/// 128.
+#[tactic(auto, unfolding(crate::specs::Pieces::is_name_byte))]
+pub fn is_name_byte(byte: u8) -> bool
+    ensures { result ≡ is_name_byte byte }
+{
+    byte.is_ascii_alphanumeric() || byte == b'_' || byte == b'$' || byte >= 128
+}
+
+/// The length of the run of name bytes with which the bytes begin.
+fn run_len(bytes: &[u8]) -> usize
+    requires present { 0 < length bytes.now }
+    requires begins { IsTrue (is_name_byte (slice_index bytes.now 0)) }
+    ensures { IsRun result bytes.now }
+{
+    for (place, byte) in bytes.iter().enumerate() {
+        if !is_name_byte(*byte) {
+            return place;
+        }
+    }
+    bytes.len()
+}
+
+/// The length of the text of a literal, in the bytes behind its opening quote.
+fn literal_text_len(behind: &[u8]) -> usize
+    ensures text { IsLiteralText result behind.now }
+    ensures ends { EndsText result behind.now }
+{
+    let mut taken = false;
+    for (len, byte) in behind.iter().enumerate() {
+        if *byte == NEWLINE || (*byte == QUOTE && !taken) {
+            return len;
+        }
+        taken = *byte == BACKSLASH && !taken;
+    }
+    behind.len()
+}
+
+/// The piece with which the bytes begin.
+pub fn first_piece(bytes: &[u8]) -> Piece
+    requires { 0 < length bytes.now }
+    ensures { IsPiece result bytes.now }
+{
+    let first = bytes[0];
+    if first == QUOTE {
+        let behind = &bytes[1..];
+        let len = literal_text_len(behind);
+        if len < behind.len() && behind[len] == QUOTE {
+            Piece::ClosedLiteral(len)
+        } else {
+            Piece::OpenLiteral(len)
+        }
+    } else if !is_name_byte(first) {
+        Piece::Skipped
+    } else if first.is_ascii_digit() {
+        Piece::DigitRun(run_len(bytes))
+    } else {
+        Piece::NameRun(run_len(bytes))
+    }
+}
+
+/// The names and literals of a file's bytes, in the order of their starts. The only error is want of
+/// memory.
+pub fn scan(alloc: Global, bytes: &[u8]) -> Result<Vec<Token>, AllocError>
+    ensures tokens { IfOk result (λ found. found.items ≡ tokens bytes.now) }
+{
+    let mut found = Vec::new(alloc);
+    let mut at = 0;
+    while at < bytes.len() {
+        let piece = first_piece(&bytes[at..]);
+        if let Some(token) = piece.token(at) {
+            found.push(token)?;
+        }
+        at += piece.len();
+    }
+    Ok(found)
+}
+
+#[cfg(test)]
+mod tests {
+    use super::TokenKind::{Literal, Name};
+    use super::*;
+
+    #[test]
+    fn laws_hold_of_all_bytes() {
+        laws::bytes_have_a_cut();
+        laws::cut_is_unique();
+        laws::tokens_are_of_every_cut();
+        laws::tokens_are_within();
+        laws::tokens_are_in_order();
+        laws::tokens_are_in_place();
+        laws::tokens_are_no_more_than_bytes();
+    }
+
+    #[test]
+    fn finds_names_and_literals(rt: HostRuntime) -> Result<(), AllocError> {
+        let cases: [(&[u8], &[(TokenKind, usize, usize)]); 12] = [
+            (b"", &[]),
+            (b"a \"b\"", &[(Name, 0, 1), (Literal, 3, 4)]),
+            (b"9x _y $z", &[(Name, 3, 5), (Name, 6, 8)]),
+            (b"\"q\\\"r", &[(Literal, 1, 5)]),
+            (
+                b"\"a\\\nb\"",
+                &[(Literal, 1, 3), (Name, 4, 5), (Literal, 6, 6)],
+            ),
+            (b"\"a\nb", &[(Literal, 1, 2), (Name, 3, 4)]),
+            (b"x\"\"y", &[(Name, 0, 1), (Literal, 2, 2), (Name, 3, 4)]),
+            (b"\"\\\\\"k", &[(Literal, 1, 3), (Name, 4, 5)]),
+            (b"\"\\", &[(Literal, 1, 2)]),
+            (b"12ab+cd3", &[(Name, 5, 8)]),
+            (b"\xc3\xa9-\x7f\x80", &[(Name, 0, 2), (Name, 4, 5)]),
+            (b"'a'.b\\c", &[(Name, 1, 2), (Name, 4, 5), (Name, 6, 7)]),
+        ];
+        for (number, (bytes, want)) in cases.iter().enumerate() {
+            let found = scan(rt.alloc(), bytes)?;
+            assert_eq!(rt; found.len(), want.len(), "case {number}");
+            for (token, (kind, start, end)) in found.iter().zip(want.iter()) {
+                let wanted = Token {
+                    kind: *kind,
+                    start: *start,
+                    end: *end,
+                };
+                assert_eq!(rt; *token, wanted, "case {number}");
+            }
+        }
+        Ok(())
+    }
+}

@@ -1,7 +1,0 @@
-use Rattle.std.proofs.Common.{◌<◌, ℕ, IsTrue, slice_index}
-use Rattle.table_program.specs.Pieces.{is_name_byte}
-use Rattle.table_program.proofs.name_scan.run_len.Given as goal
-
--- the bytes that have gone by are name bytes
-abbrev pub invariant-loop-place : goal.invariant-loop-place
-invariant-loop-place l = (k : ℕ) → k < l.place → IsTrue (is_name_byte (slice_index l.bytes k))
