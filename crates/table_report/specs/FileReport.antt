@@ -1,5 +1,5 @@
 -- The report that files' bytes and two logs define.
-use Rattle.std.specs.Prelude.{◌≡◌, ℕ, ◌+◌, ◌^◌, List, [], ◌∷◌, length, sum_by}
+use Rattle.std.specs.Prelude.{◌≡◌, ℕ, ◌^◌, List, [], ◌∷◌, length, sum_by}
 use Rattle.std.specs.List.{flat_map}
 use Rattle.intern_log.specs.declared.event.Event.{Event}
 use Rattle.intern_log.specs.Buckets.{settle_level, longest_bucket}
