@@ -30,3 +30,7 @@ names_of bytes = names_among bytes (tokens bytes)
 
 abbrev pub literals_of : List ℕ → List (List ℕ)
 literals_of bytes = literals_among bytes (tokens bytes)
+
+-- the texts of all tokens, in order
+abbrev pub texts_among : List ℕ → List Token → List (List ℕ)
+texts_among bytes found = map (text_of bytes) found

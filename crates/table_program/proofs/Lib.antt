@@ -12,4 +12,5 @@ pub mod StringSteps
 pub mod StringTotals
 pub mod StringCode
 pub mod Settling
+pub mod LongTexts
 pub mod FileReports

@@ -5,6 +5,7 @@ pub mod StringRun
 pub mod MadeEntries
 pub mod Symbols
 pub mod Notes
+pub mod Limits
 pub mod Writing
 pub mod Words
 pub mod PlainRun

@@ -24,12 +24,13 @@ NamedRose words old new = IfSome (plain_name words) (λ name. Rose (old name) (n
 abbrev pub IsOneOf : List ℕ → ℕ → Type 0
 IsOneOf statuses status = IsTrue (list_any (nat_eq status) statuses)
 
--- the note that goes with a status of `plain`
-abbrev pub note_of : ℕ → Note
-note_of status =
-    if status == 2 then note.File 1
-    else (if status == 4 then note.Limit Bytes 65536
-    else note.Nothing)
+-- the note is of the kind that goes with a status of `plain`: the one file at 2, a limit at 4, and else nothing
+abbrev pub IsPlainNote : ℕ → Note → Type 0
+IsPlainNote status note.Nothing = IsOneOf (0 ∷ 1 ∷ 3 ∷ 6 ∷ []) status
+IsPlainNote status (note.File number) = (status ≡ 2) × (number ≡ 1)
+IsPlainNote status (note.Limit which value) = status ≡ 4
+IsPlainNote status (note.Counter counter) = ⊥
+IsPlainNote status (note.Line number) = ⊥
 
 -- the report of the bytes was written behind what was there before
 pub record WritesReport (bytes : List ℕ) (before after : Option (List ℕ)) : Type 0 where

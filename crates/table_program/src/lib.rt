@@ -1,6 +1,7 @@
 //! The program's commands.
 #![tactic(auto)]
 
+pub mod limits;
 mod literals;
 mod names;
 pub mod outcome;

@@ -4,6 +4,7 @@ ghost use Rattle.intern_log.specs.declared.text.TheConstants.{MAX_TEXT};
 ghost use Rattle.name_scan.specs.declared.Token.{Token};
 ghost use Rattle.name_scan.specs.FileTexts.{names_among};
 ghost use Rattle.name_scan.specs.Places.{IsWithin};
+ghost use Rattle.table_program.specs.Limits.{IsShort};
 ghost use Rattle.table_program.specs.SymbolRun.{SymbolRun, NameInterned, IsSymbolWindow, CountsFit};
 ghost use Rattle.table_program.specs.Symbols.{InternsName, IsSymbolsOf};
 
@@ -97,7 +98,7 @@ fn hold_token(
 ) -> Result<(), AllocError>
     requires counted { plain.old.kind ≡ Kind.Counted }
     requires within { IsWithin bytes.now token }
-    requires short { length bytes.now ≤ MAX_TEXT }
+    requires short { IsShort bytes.now token }
     requires room { plain.old.created < 2 ^ 32 - 1 }
     requires fits { CountsFit counts.old }
     requires window { IsSymbolWindow window.old.capacity }
@@ -135,7 +136,7 @@ pub(crate) fn intern_names(
 ) -> Result<Symbols, AllocError>
     requires window { IsSymbolWindow hold }
     requires within { All (IsWithin bytes.now) tokens.now }
-    requires short { length bytes.now ≤ MAX_TEXT }
+    requires short { All (IsShort bytes.now) tokens.now }
     requires few { length tokens.now < 2 ^ 32 - 1 }
     ensures symbols { IfOk result (λ symbols. IsSymbolsOf hold (names_among bytes.now tokens.now) symbols.plain.texts symbols.counts) }
     ensures names { IfOk result (λ symbols. symbols.names ≡ length (names_among bytes.now tokens.now)) }

@@ -2,6 +2,7 @@ ghost use Rattle.std.specs.Prelude.{◌≡◌, ◌+◌, ◌<◌, ◌≤◌, ◌+
 ghost use Rattle.table_program.specs.Notes.{limit_word, plain_text, note_text, IsNoteOf};
 
 use itoa::Buffer;
+use std::alloc::AllocError;
 
 /// How a run ended.
 #[derive(Clone, Copy, Debug, PartialEq, Eq)]
@@ -57,6 +58,17 @@ impl Outcome {
             status: 4,
             note: Note::Limit { which, value },
         }
+    }
+}
+
+impl From<AllocError> for Outcome {
+    ghost use Rattle.std.specs.Prelude.{◌≡◌};
+    ghost use Rattle.table_program.specs.declared.outcome.Note.TheVariants.{Nothing};
+
+    ghost from_gives = { λ _ outcome. outcome ≡ record { status = 6; note = Nothing } };
+
+    fn from(_: AllocError) -> Outcome {
+        Outcome::NO_MEMORY
     }
 }
 

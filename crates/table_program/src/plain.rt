@@ -1,13 +1,18 @@
 //! The command `plain`: one file, interned on one thread, and its report.
-ghost use Rattle.std.specs.Prelude.{◌≡◌, ◌≤◌, ◌^◌, length, IfOk};
-ghost use Rattle.intern_log.specs.declared.text.TheConstants.{MAX_TEXT};
+ghost use Rattle.std.specs.Prelude.{◌≡◌, ◌≤◌, List, [], ◌∷◌, length, All, None, Some, IfOk, IfErr, OnOk};
 ghost use Rattle.intern_log.specs.TextMap.{live_texts};
-ghost use Rattle.table_report.specs.FileReport as plain_report;
+ghost use Rattle.table_report.specs.FileReport as file_report_spec;
+ghost use Rattle.name_scan.specs.Tokens as tokens_of;
+ghost use Rattle.table_program.specs.Limits.{limit_note, IsShort};
+ghost use Rattle.table_program.specs.PlainRun.{IsOneOf, IsPlainNote};
+ghost use Rattle.table_program.specs.declared.limits.TheConstants.{MOST_BYTES};
 
+use crate::limits::limit_of;
 use crate::literals::intern_literals;
 use crate::names::intern_names;
+use crate::outcome::Outcome;
 use crate::settle::settle_level;
-use name_scan::scan;
+use name_scan::{Token, scan};
 use plain_interner::Plain;
 use std::alloc::{AllocError, Global};
 use table_report::{Report, Statistics2, report_text};
@@ -27,7 +32,7 @@ const STRING_LOAD: u16 = 2;
 
 /// What the interner's live texts show at the level where a table of them settles.
 fn settled(load: u16, plain: &Plain, references: u64) -> Statistics2
-    ensures settled { result ≡ plain_report.settled load MIN_LEVEL MAX_LEVEL (live_texts plain.now.texts) references }
+    ensures settled { result ≡ file_report_spec.settled load MIN_LEVEL MAX_LEVEL (live_texts plain.now.texts) references }
 {
     let live = plain.live();
     let level = settle_level(load, live, MIN_LEVEL, MAX_LEVEL);
@@ -39,14 +44,31 @@ fn settled(load: u16, plain: &Plain, references: u64) -> Statistics2
     }
 }
 
-/// The report of a file's bytes. Want of memory is the only error.
-pub(crate) fn file_report(alloc: Global, bytes: &[u8]) -> Result<Vec<u8>, AllocError>
-    requires short { length bytes.now ≤ MAX_TEXT }
-    ensures report { IfOk result (λ text. plain_report.IsPlainReport bytes.now text.items) }
+/// The report of a file's bytes, or the outcome where they pass a limit or memory is wanting.
+pub(crate) fn file_report(alloc: Global, bytes: &[u8]) -> Result<Vec<u8>, Outcome>
+    requires few { length bytes.now ≤ MOST_BYTES }
+    ensures report { IfOk result (λ text. file_report_spec.IsPlainReport bytes.now text.items) }
+    ensures within { OnOk result (limit_note bytes.now ≡ None) }
+    ensures statuses { IfErr result (λ outcome. IsOneOf (4 ∷ 6 ∷ []) outcome.status) }
+    ensures over_limit { IfErr result (λ outcome. outcome.status ≡ 4 → limit_note bytes.now ≡ Some outcome.note) }
+    ensures note { IfErr result (λ outcome. IsPlainNote outcome.status outcome.note) }
 {
     let tokens = scan(alloc, bytes)?;
-    let symbols = intern_names(alloc, bytes, tokens.as_slice(), HOLD)?;
-    let strings = intern_literals(alloc, bytes, tokens.as_slice(), HOLD)?;
+    if let Some(note) = limit_of(bytes, tokens.as_slice()) {
+        return Err(Outcome { status: 4, note });
+    }
+    Ok(tokens_report(alloc, bytes, tokens.as_slice())?)
+}
+
+/// The report of a file's tokens, which are within the limits.
+fn tokens_report(alloc: Global, bytes: &[u8], tokens: &[Token]) -> Result<Vec<u8>, AllocError>
+    requires few { length bytes.now ≤ MOST_BYTES }
+    requires tokens { tokens.now ≡ tokens_of.tokens bytes.now }
+    requires short { All (IsShort bytes.now) tokens.now }
+    ensures report { IfOk result (λ text. file_report_spec.IsPlainReport bytes.now text.items) }
+{
+    let symbols = intern_names(alloc, bytes, tokens, HOLD)?;
+    let strings = intern_literals(alloc, bytes, tokens, HOLD)?;
     let report = Report {
         names: symbols.names,
         symbols: settled(SYMBOL_LOAD, &symbols.plain, symbols.plain.references()),

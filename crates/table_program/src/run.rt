@@ -1,11 +1,13 @@
 //! The program's top calls.
 ghost use Rattle.std.specs.Prelude.{◌≡◌, ◌≢◌, ℕ, ◌<◌, ◌≤◌, ◌↔◌, ◌⊎◌, List, [], ◌∷◌, length, Option, Some, None, IsSome, IfSome};
 ghost use Rattle.std.specs.Option.{option_copied};
-ghost use Rattle.intern_log.specs.declared.text.TheConstants.{MAX_TEXT};
+ghost use Rattle.table_program.specs.Limits.{limit_note};
+ghost use Rattle.table_program.specs.declared.limits.TheConstants.{MOST_BYTES};
 ghost use Rattle.io_edge.specs.Faults.{Rose};
 ghost use Rattle.table_program.specs.Words as words_spec;
-ghost use Rattle.table_program.specs.PlainRun.{told_file, NamedRose, IsOneOf, note_of, status_of, WritesReport, WritesPartOfReport};
+ghost use Rattle.table_program.specs.PlainRun.{told_file, NamedRose, IsOneOf, IsPlainNote, status_of, WritesReport, WritesPartOfReport};
 
+use crate::limits::MOST_BYTES;
 use crate::outcome::{Limit, Note, Outcome};
 use crate::plain::file_report;
 use crate::reading::{ReadFault, read_file};
@@ -14,9 +16,6 @@ use io_edge::{Files, Pace, Sink};
 use std::alloc::Global;
 use std::sync::Wait;
 use std::thread::Threads;
-
-/// The most bytes that a file may have.
-const MOST_BYTES: usize = 65_535;
 
 /// The name of the file, where the words are `plain` and one more.
 fn plain_name(words: &[String]) -> Option<&str>
@@ -28,30 +27,33 @@ fn plain_name(words: &[String]) -> Option<&str>
     }
 }
 
-/// Writes the report of a file's bytes.
+/// Writes the report of a file's bytes, where they are within the limits.
 fn write_report<K: Sink>(alloc: Global, bytes: &[u8], out: &mut K) -> Outcome
-    requires short { length bytes.now ≤ MAX_TEXT }
+    requires few { length bytes.now ≤ MOST_BYTES }
     ensures report { result.status ≡ 0 → WritesReport bytes.now (K.written out.old) (K.written out.new) }
     ensures part_of_report { result.status ≡ 3 → WritesPartOfReport bytes.now (K.written out.old) (K.written out.new) }
     ensures write_fault { result.status ≡ 3 → Rose (K.faults out.old) (K.faults out.new) }
-    ensures untouched { result.status ≡ 6 → out.new ≡ out.old }
-    ensures statuses { IsOneOf (0 ∷ 3 ∷ 6 ∷ []) result.status }
-    ensures note { result.note ≡ Note.Nothing }
+    ensures over_limit { result.status ≡ 4 → limit_note bytes.now ≡ Some result.note }
+    ensures limit { IsSome (limit_note bytes.now) → IsOneOf (4 ∷ 6 ∷ []) result.status }
+    ensures untouched { result.status ≢ 0 → result.status ≢ 3 → out.new ≡ out.old }
+    ensures statuses { IsOneOf (0 ∷ 3 ∷ 4 ∷ 6 ∷ []) result.status }
+    ensures note { IsPlainNote result.status result.note }
     ensures never_falls { K.faults out.old ≤ K.faults out.new }
 {
-    let Ok(text) = file_report(alloc, bytes) else {
-        return Outcome::NO_MEMORY;
-    };
-    match write_all(out, text.as_slice()) {
-        Ok(()) => Outcome::DONE,
-        Err(_) => Outcome::WRITE_FAULT,
+    match file_report(alloc, bytes) {
+        Ok(text) => match write_all(out, text.as_slice()) {
+            Ok(()) => Outcome::DONE,
+            Err(_) => Outcome::WRITE_FAULT,
+        },
+        Err(outcome) => outcome,
     }
 }
 
 /// The outcome where the one file was not read whole.
 fn refused(fault: ReadFault) -> Outcome
     ensures status { result.status ≡ status_of fault }
-    ensures note { result.note ≡ note_of result.status }
+    ensures note { IsPlainNote result.status result.note }
+    ensures limit { fault ≡ ReadFault.TooLong → result.note ≡ Note.Limit Limit.Bytes 67108865 }
 {
     match fault {
         ReadFault::Failed => Outcome::read_fault(1),
@@ -64,8 +66,9 @@ fn refused(fault: ReadFault) -> Outcome
 /// thread, and writes the report. It waits for nobody.
 ///
 /// The statuses are 0 where the report was written, 1 where the words are not `plain` and one more, 2
-/// where the file could not be read, 3 where the output took no more, 4 where the file has more than
-/// 65,535 bytes, and 6 where there was no memory. At any but 0 and 3 nothing was written.
+/// where the file could not be read, 3 where the output took no more, 4 where the file passes a limit
+/// (bytes, the length of a text, the number of names, of literals), with the first that it passes in
+/// the note, and 6 where there was no memory. At any but 0 and 3 nothing was written.
 pub fn run_plain<F: Files, K: Sink>(
     alloc: Global,
     words: &[String],
@@ -77,9 +80,9 @@ pub fn run_plain<F: Files, K: Sink>(
         NamedRose (words_spec.words_of words.now) (F.faults files.old) (F.faults files.new) }
     ensures write_fault { result.status ≡ 3 → Rose (K.faults out.old) (K.faults out.new) }
     ensures over_limit { result.status ≡ 4 →
-        IfSome (told_file (F.bytes_of files.old) (words_spec.words_of words.now)) (λ bytes. 65535 < length bytes) }
+        IfSome (told_file (F.bytes_of files.old) (words_spec.words_of words.now)) (λ bytes. limit_note bytes ≡ Some result.note) }
     ensures limit { IfSome (told_file (F.bytes_of files.old) (words_spec.words_of words.now))
-        (λ bytes. 65535 < length bytes → IsOneOf (2 ∷ 4 ∷ 6 ∷ []) result.status) }
+        (λ bytes. IsSome (limit_note bytes) → IsOneOf (2 ∷ 4 ∷ 6 ∷ []) result.status) }
 
     ensures report { result.status ≡ 0 →
         IfSome (told_file (F.bytes_of files.old) (words_spec.words_of words.now))
@@ -93,12 +96,12 @@ pub fn run_plain<F: Files, K: Sink>(
 
     // Where the words are accepted, the limit is kept and no count of faults rose, only memory can be wanting.
     ensures complete { IfSome (told_file (F.bytes_of files.old) (words_spec.words_of words.now))
-        (λ bytes. length bytes ≤ 65535
+        (λ bytes. limit_note bytes ≡ None
         → ¬ (NamedRose (words_spec.words_of words.now) (F.faults files.old) (F.faults files.new))
         → ¬ (Rose (K.faults out.old) (K.faults out.new))
         → IsOneOf (0 ∷ 6 ∷ []) result.status) }
     ensures statuses { IsOneOf (0 ∷ 1 ∷ 2 ∷ 3 ∷ 4 ∷ 6 ∷ []) result.status }
-    ensures note { result.note ≡ note_of result.status }
+    ensures note { IsPlainNote result.status result.note }
 
     ensures keeps { (name : List ℕ) → F.bytes_of files.new name ≡ F.bytes_of files.old name }
     ensures files_never_fall { (name : List ℕ) → F.faults files.old name ≤ F.faults files.new name }
@@ -131,9 +134,9 @@ pub fn run<R: Threads + Wait + Sync, F: Files, K: Sink, P: Pace>(
         NamedRose (words_spec.words_of words.now) (F.faults files.old) (F.faults files.new) }
     ensures write_fault { result.status ≡ 3 → Rose (K.faults out.old) (K.faults out.new) }
     ensures over_limit { result.status ≡ 4 →
-        IfSome (told_file (F.bytes_of files.old) (words_spec.words_of words.now)) (λ bytes. 65535 < length bytes) }
+        IfSome (told_file (F.bytes_of files.old) (words_spec.words_of words.now)) (λ bytes. limit_note bytes ≡ Some result.note) }
     ensures limit { IfSome (told_file (F.bytes_of files.old) (words_spec.words_of words.now))
-        (λ bytes. 65535 < length bytes → IsOneOf (2 ∷ 4 ∷ 6 ∷ []) result.status) }
+        (λ bytes. IsSome (limit_note bytes) → IsOneOf (2 ∷ 4 ∷ 6 ∷ []) result.status) }
 
     ensures report { result.status ≡ 0 →
         IfSome (told_file (F.bytes_of files.old) (words_spec.words_of words.now))
@@ -147,12 +150,12 @@ pub fn run<R: Threads + Wait + Sync, F: Files, K: Sink, P: Pace>(
 
     // Where the words are accepted, the limit is kept and no count of faults rose, only memory can be wanting.
     ensures complete { IfSome (told_file (F.bytes_of files.old) (words_spec.words_of words.now))
-        (λ bytes. length bytes ≤ 65535
+        (λ bytes. limit_note bytes ≡ None
         → ¬ (NamedRose (words_spec.words_of words.now) (F.faults files.old) (F.faults files.new))
         → ¬ (Rose (K.faults out.old) (K.faults out.new))
         → IsOneOf (0 ∷ 6 ∷ []) result.status) }
     ensures statuses { IsOneOf (0 ∷ 1 ∷ 2 ∷ 3 ∷ 4 ∷ 6 ∷ []) result.status }
-    ensures note { result.note ≡ note_of result.status }
+    ensures note { IsPlainNote result.status result.note }
 
     ensures keeps { (name : List ℕ) → F.bytes_of files.new name ≡ F.bytes_of files.old name }
     ensures files_never_fall { (name : List ℕ) → F.faults files.old name ≤ F.faults files.new name }

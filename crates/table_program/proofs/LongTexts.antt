@@ -1,0 +1,79 @@
+-- The search for a text that is too long.
+use Rattle.std.proofs.Common.{◌≡◌, ℕ, suc, ◌+◌, ◌<◌, ◌≤◌, Bool, true, false, cond, nat_lt, List, [], ◌∷◌, All, filter, count_by, map, drop, get_or, length, Option, Some, None, refl, ap, sym, ◌∙◌, add-one, arith, drop-cons}
+use Rattle.std.specs.Option.{option_map, option_or}
+use Rattle.std.proofs.lemmas.Bool.{le-ltb, lt-ltb, ltb-false}
+use Rattle.std.proofs.lemmas.List.{length-map}
+use Rattle.std.specs.List.{AllByRecursion}
+use Rattle.std.proofs.lemmas.List.Elements.{All-from_recursion, All-filter, All-map}
+use Rattle.std.proofs.lemmas.List.Sums.{length-filter}
+use Rattle.intern_log.specs.declared.text.TheConstants.{MAX_TEXT}
+use Rattle.name_scan.specs.declared.Token.{Token}
+use Rattle.name_scan.specs.FileTexts.{is_name, is_literal, text_of, texts_among, names_among, literals_among}
+use Rattle.table_program.specs.declared.outcome.Limit.TheVariants.{Text, Names, Literals}
+use Rattle.table_program.specs.declared.outcome.Note.{Note}
+use Rattle.table_program.specs.declared.outcome.Note.TheVariants as note
+use Rattle.table_program.specs.Limits.{most_names, most_literals, long_length, above, tokens_note, IsShort}
+
+no_item : {n : ℕ} → Some n ≡ None → ⊥
+no_item is = cc
+
+no_note : {n : Note} → Some n ≡ None → ⊥
+no_note is = cc
+
+-- the rest of the tokens from a place on begins with the token there
+rest_from : (bytes : List ℕ) (found : List Token) (i : ℕ) (d : Token) → i < length found →
+    texts_among bytes (drop i found) ≡ text_of bytes (get_or found i d) ∷ texts_among bytes (drop (i + 1) found)
+rest_from bytes found i d within = let split : drop i found ≡ get_or found i d ∷ drop (i + 1) found = rw add-one (drop-cons found i d within) in ap (texts_among bytes) split
+
+-- a short text is passed
+pub passes_short : (bytes : List ℕ) (found : List Token) (i : ℕ) (d : Token) → i < length found → length (text_of bytes (get_or found i d)) ≤ MAX_TEXT →
+    long_length (texts_among bytes (drop i found)) ≡ long_length (texts_among bytes (drop (i + 1) found))
+passes_short bytes found i d within short =
+    ap long_length (rest_from bytes found i d within) ∙ ap (λ b. cond b (Some (length (text_of bytes (get_or found i d)))) (long_length (texts_among bytes (drop (i + 1) found)))) (le-ltb MAX_TEXT (length (text_of bytes (get_or found i d))) short)
+
+-- a long one is found
+pub finds_long : (bytes : List ℕ) (found : List Token) (i : ℕ) (d : Token) → i < length found → MAX_TEXT < length (text_of bytes (get_or found i d)) →
+    long_length (texts_among bytes (drop i found)) ≡ Some (length (text_of bytes (get_or found i d)))
+finds_long bytes found i d within long =
+    ap long_length (rest_from bytes found i d within) ∙ ap (λ b. cond b (Some (length (text_of bytes (get_or found i d)))) (long_length (texts_among bytes (drop (i + 1) found)))) (lt-ltb MAX_TEXT (length (text_of bytes (get_or found i d))) long)
+
+-- where no text is too long each token is short
+one_short : (bytes : List ℕ) (t : Token) (rest : Option ℕ) (Rest : Type 0) (long : Bool) → nat_lt MAX_TEXT (length (text_of bytes t)) ≡ long → (rest ≡ None → Rest) →
+    cond long (Some (length (text_of bytes t))) rest ≡ None → IsShort bytes t × Rest
+one_short bytes t rest Rest true is others some = absurd (no_item some)
+one_short bytes t rest Rest false is others none = (ltb-false MAX_TEXT (length (text_of bytes t)) is, others none)
+
+each_short : (bytes : List ℕ) (found : List Token) → long_length (texts_among bytes found) ≡ None → AllByRecursion (IsShort bytes) found
+each_short bytes [] none = tt
+each_short bytes (t ∷ found) none =
+    one_short bytes t (long_length (texts_among bytes found)) (AllByRecursion (IsShort bytes) found) (nat_lt MAX_TEXT (length (text_of bytes t))) refl (λ rest. each_short bytes found rest) none
+
+pub none_long : (bytes : List ℕ) (found : List Token) → long_length (texts_among bytes found) ≡ None → All (IsShort bytes) found
+none_long bytes found none = All-from_recursion (IsShort bytes) found (each_short bytes found none)
+
+-- where no limit is passed no text is too long
+pub within_limits : (bytes : List ℕ) (found : List Token) → tokens_note bytes found ≡ None → long_length (texts_among bytes found) ≡ None
+within_limits bytes found none = first_none (long_length (texts_among bytes found)) none
+  where
+    first_none : (o : Option ℕ) → option_or (option_or (option_map (λ n. note.Limit Text n) o) (above Names most_names (length (names_among bytes found))))
+        (above Literals most_literals (length (literals_among bytes found))) ≡ None → o ≡ None
+    first_none None is = refl
+    first_none (Some n) is = absurd (no_note is)
+
+-- how many names and literals there are
+pub name_count_is : (bytes : List ℕ) (found : List Token) → length (names_among bytes found) ≡ count_by (λ (t : Token). is_name t.kind) found
+name_count_is bytes found = length-map (filter (λ (t : Token). is_name t.kind) found) (text_of bytes) ∙ length-filter (λ (t : Token). is_name t.kind) found
+
+pub literal_count_is : (bytes : List ℕ) (found : List Token) → length (literals_among bytes found) ≡ count_by (λ (t : Token). is_literal t.kind) found
+literal_count_is bytes found = length-map (filter (λ (t : Token). is_literal t.kind) found) (text_of bytes) ∙ length-filter (λ (t : Token). is_literal t.kind) found
+
+-- the first of three notes
+pub first_of_three : (both all text names literals text_is names_is literals_is : Option Note) →
+    all ≡ option_or both literals → both ≡ option_or text names → text ≡ text_is → names ≡ names_is → literals ≡ literals_is →
+    all ≡ option_or (option_or text_is names_is) literals_is
+first_of_three both all text names literals text_is names_is literals_is all_are both_are text_same names_same literals_same = cc
+
+-- each name and each literal among short tokens is short
+pub literals_are_short : (bytes : List ℕ) (found : List Token) → All (IsShort bytes) found → All (λ text. length text ≤ MAX_TEXT) (literals_among bytes found)
+literals_are_short bytes found short =
+    All-map (λ text. length text ≤ MAX_TEXT) (text_of bytes) (filter (λ (t : Token). is_literal t.kind) found) (All-filter (λ (t : Token). is_literal t.kind) (IsShort bytes) found short)
