@@ -5,8 +5,7 @@ use io_edge::{HostFiles, HostSink, NoPace};
 use std::env;
 use std::io::{self, Write};
 use std::process::ExitCode;
-use table_program::outcome::{Outcome, note_line};
-use table_program::run::run;
+use table_program::{Outcome, note_line, run};
 
 /// The words behind the program's own name.
 fn words(rt: &HostRuntime) -> io::Result<Vec<String>> {
