@@ -1,7 +1,6 @@
 -- The report of a file, from what its names and its literals come to.
-use Rattle.std.proofs.Common.{◌≡◌, ℕ, ◌+◌, ◌≤◌, List, [], ◌∷◌, ◌++◌, All, length, refl, sym, ap, ◌∙◌, arith, append-nil, zero-add}
+use Rattle.std.proofs.Common.{◌≡◌, ℕ, List, [], ◌∷◌, All, length, sym, ap, ◌∙◌, arith, append-nil, zero-add}
 use Rattle.std.specs.Prelude.{Result, Ok, Err, IfOk}
-use Rattle.std.specs.List.{flat_map}
 use Rattle.intern_log.specs.Finals.{finals, distinct_texts}
 use Rattle.plain_interner.specs.State.{references_of}
 use Rattle.intern_log.specs.TextMap.{TextMap, live_texts}
@@ -11,7 +10,7 @@ use Rattle.table_report.specs.declared.SymbolCounts.{SymbolCounts}
 use Rattle.table_report.specs.declared.StringCounts.{StringCounts}
 use Rattle.name_scan.specs.FileTexts.{names_of, literals_of}
 use Rattle.name_scan.specs.Places.{IsWithin}
-use Rattle.table_report.specs.FileReport.{settled, symbol_load, string_load, report_of, report, plain_hold, plain_min_level, plain_max_level, IsPlainReport}
+use Rattle.table_report.specs.FileReport.{settled, symbol_load, string_load, report_of, plain_hold, plain_min_level, plain_max_level, IsPlainReport}
 use Rattle.table_program.specs.Symbols.{IsSymbolsOf}
 use Rattle.table_report.specs.Report.{report_lines}
 use Rattle.table_program.specs.StringRun.{IsStringsOf}

@@ -1,5 +1,5 @@
 -- The last items of a list as it grows by one.
-use Rattle.std.proofs.Common.{◌≡◌, ℕ, zero, suc, ◌+◌, ◌-◌, ◌<◌, ◌≤◌, List, [], ◌∷◌, ◌++◌, Option, Some, None, length, drop, map, refl, sym, ap, ◌∙◌, arith, length-append, length-drop, ◌⊎◌, inl, inr, Bool, true, false, nat_lt}
+use Rattle.std.proofs.Common.{◌≡◌, ℕ, zero, suc, ◌-◌, ◌<◌, ◌≤◌, List, [], ◌∷◌, ◌++◌, Some, length, drop, map, refl, sym, ap, ◌∙◌, arith, length-append, length-drop, ◌⊎◌, inl, inr, Bool, true, false, nat_lt}
 use Rattle.std.specs.Prelude.{slice_get}
 use Rattle.std.proofs.lemmas.List.{length-map, drop-map, drop-append-le}
 use Rattle.std.proofs.lemmas.Bool.{ltb-true, ltb-false}

@@ -1,7 +1,6 @@
 -- What an intern and a Drop do to a map whose counts are those of a list of held texts.
-use Rattle.std.proofs.Common.{◌≡◌, ℕ, ◌+◌, ◌-◌, ◌<◌, ◌≤◌, Bool, true, false, cond, List, [], ◌∷◌, ◌++◌, Option, Some, None, count_by, min, length, refl, sym, ap, subst, ◌∙◌, arith, length-append, ◌==◌, nat_le, ◌&&◌, zero-add}
+use Rattle.std.proofs.Common.{◌≡◌, ℕ, ◌+◌, ◌-◌, ◌<◌, ◌≤◌, Bool, true, false, cond, List, [], ◌∷◌, ◌++◌, Option, Some, None, min, length, refl, sym, ap, subst, ◌∙◌, arith, ◌==◌, nat_le, zero-add}
 use Rattle.std.specs.Prelude.{MatchOption}
-use Rattle.std.specs.Bool.{Decides}
 use Rattle.std.specs.Str.{bytes_eq}
 use Rattle.std.specs.Option.{option_map, option_and_then}
 use Rattle.std.proofs.lemmas.Slice.Eq.{bytes_eq-Decides}
@@ -12,7 +11,7 @@ use Rattle.intern_log.specs.declared.event.Handle.{Handle}
 use Rattle.intern_log.specs.declared.event.Entry.{Entry}
 use Rattle.intern_log.specs.declared.event.TheConstants.{PERMANENT}
 use Rattle.intern_log.specs.declared.event.What.TheVariants.{Create, Take, Drop}
-use Rattle.intern_log.specs.TextMap.{TextMap, entry_of, HasHandle, IsLive, handle_eq, at_handle, no_texts}
+use Rattle.intern_log.specs.TextMap.{TextMap, entry_of, HasHandle, IsLive, handle_eq, at_handle}
 use Rattle.intern_log.specs.Log.{next, new_entry, raised, lowered, HandlesDiffer}
 use Rattle.intern_log.proofs.Entries.{entry_of-next}
 use Rattle.intern_log.proofs.Handles.{handle_eq-Decides}

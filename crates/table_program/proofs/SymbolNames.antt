@@ -1,5 +1,5 @@
 -- From what an interner answers to the run of a file's names.
-use Rattle.std.proofs.Common.{◌≡◌, ℕ, ◌+◌, ◌-◌, ◌≤◌, List, [], ◌∷◌, ◌++◌, length, filter, refl, sym, ap, subst, ◌∙◌, arith}
+use Rattle.std.proofs.Common.{◌≡◌, ℕ, ◌+◌, ◌-◌, ◌≤◌, List, [], length, filter, refl, sym, subst, arith}
 use Rattle.std.specs.Prelude.{MatchOption}
 use Rattle.std.specs.FinMap as finite
 use Rattle.std.specs.Ordering.{nat_cmp}
@@ -10,14 +10,11 @@ use Rattle.circular_buffer.specs.Buffer.{Buffer, buffer}
 use Rattle.std.proofs.lemmas.List.Sums.{length-filter, count_by-le-length}
 use Rattle.intern_log.specs.declared.event.Handle.{Handle}
 use Rattle.intern_log.specs.declared.event.Kind.TheVariants.{Counted}
-use Rattle.intern_log.specs.declared.event.What.{What}
-use Rattle.intern_log.specs.declared.event.What.TheVariants.{Create}
 use Rattle.intern_log.specs.TextMap.{TextMap, no_texts}
-use Rattle.intern_log.specs.PlainLogs.{slots_taken}
 use Rattle.name_scan.specs.declared.Token.{Token}
 use Rattle.name_scan.specs.FileTexts.{is_name, text_of, names_among}
 use Rattle.table_program.specs.Holding.{times_held, Counts, Holds}
-use Rattle.plain_interner.specs.State.{State, Follows}
+use Rattle.plain_interner.specs.State.{State}
 use Rattle.table_report.specs.declared.SymbolCounts.{SymbolCounts}
 use Rattle.table_program.specs.SymbolRun.{SymbolRun, NameInterned}
 use Rattle.table_program.specs.Symbols.{InternsName, NamesSoFar}

@@ -1,23 +1,19 @@
 -- One more name: its intern, and the Drop of the handle that leaves the window.
-use Rattle.std.proofs.Common.{◌≡◌, ℕ, zero, suc, ◌+◌, ◌-◌, ◌<◌, ◌≤◌, Bool, true, false, cond, List, [], ◌∷◌, ◌++◌, Option, Some, None, count_by, map, length, drop, refl, sym, ap, subst, ◌∙◌, ◌⊎◌, inl, inr, arith, length-append, length-drop, add-zero, append-nil, append_assoc, nat_lt}
+use Rattle.std.proofs.Common.{◌≡◌, ℕ, zero, suc, ◌+◌, ◌-◌, ◌<◌, ◌≤◌, Bool, true, false, cond, List, [], ◌∷◌, ◌++◌, Some, None, map, length, refl, sym, ap, subst, ◌∙◌, inl, inr, arith, length-append, length-drop, add-zero, append_assoc, nat_lt}
 use Rattle.std.specs.Prelude.{slice_get}
 use Rattle.std.proofs.lemmas.List.{length-map, map-append}
 use Rattle.std.proofs.lemmas.Bool.{le-ltb, lt-ltb, ltb-true, ltb-false}
-use Rattle.std.proofs.lemmas.List.Sums.{sum_by-append}
 use Rattle.intern_log.specs.declared.event.Handle.{Handle}
-use Rattle.intern_log.specs.declared.event.Event.{Event}
 use Rattle.intern_log.specs.declared.event.What.{What}
 use Rattle.intern_log.specs.declared.event.TheConstants.{PERMANENT}
 use Rattle.intern_log.specs.declared.event.What.TheVariants.{Create, Take, Drop}
-use Rattle.intern_log.specs.TextMap.{TextMap, no_texts, entry_of, HasHandle, IsLive}
-use Rattle.intern_log.specs.Log.{next, Allows, map_after, map_of, IsLegal, IsLegalFrom, HandlesDiffer}
+use Rattle.intern_log.specs.TextMap.{TextMap, IsLive}
+use Rattle.intern_log.specs.Log.{next, Allows, HandlesDiffer}
 use Rattle.intern_log.specs.Counts.{is_create, is_take, is_drop}
 use Rattle.intern_log.specs.Finals.{finals}
-use Rattle.intern_log.specs.Window.{by_seat, IsCountedIntern, let_go, dropped_from, IsWindowRun}
-use Rattle.intern_log.specs.PlainLogs.{IsNumbered, IsNumberedFrom, slots_taken}
-use Rattle.intern_log.proofs.Logs.{map_after-append, IsLegalFrom-append, IsLegal-push, by_seat-append}
-use Rattle.intern_log.proofs.Handles.{HandlesDiffer-next, live_handles_differ_lem}
-use Rattle.intern_log.proofs.PlainLogLaws.{IsWindowRun-push, IsNumberedFrom-append}
+use Rattle.intern_log.specs.Window.{IsCountedIntern, let_go, dropped_from, IsWindowRun}
+use Rattle.intern_log.proofs.Handles.{live_handles_differ_lem}
+use Rattle.intern_log.proofs.PlainLogLaws.{IsWindowRun-push}
 use Rattle.table_report.specs.declared.SymbolCounts.{SymbolCounts}
 use Rattle.table_program.specs.Holding.{Held, Holds}
 use Rattle.table_program.specs.OneSeatLog.{OneSeatLog}

@@ -1,5 +1,5 @@
 -- A map whose counts are those of a list of held texts.
-use Rattle.std.specs.Prelude.{◌≡◌, ℕ, ◌<◌, Bool, true, List, [], ◌∷◌, count_by, Option, Some, None, MatchOption}
+use Rattle.std.specs.Prelude.{◌≡◌, ℕ, ◌<◌, true, List, [], ◌∷◌, count_by, MatchOption}
 use Rattle.std.specs.Str.{bytes_eq}
 use Rattle.intern_log.specs.declared.event.Handle.{Handle}
 use Rattle.intern_log.specs.declared.event.Entry.{Entry}

@@ -1,5 +1,5 @@
 -- The limits of the input of `plain`.
-use Rattle.std.specs.Prelude.{◌≡◌, ℕ, ◌+◌, ◌≤◌, nat_lt, List, length, map, find, Option, Some, None, if◌then◌else◌}
+use Rattle.std.specs.Prelude.{ℕ, ◌+◌, ◌≤◌, nat_lt, List, length, map, find, Option, Some, None, if◌then◌else◌}
 use Rattle.std.specs.Option.{option_map, option_or}
 use Rattle.intern_log.specs.declared.text.TheConstants.{MAX_TEXT}
 use Rattle.name_scan.specs.declared.Token.{Token}

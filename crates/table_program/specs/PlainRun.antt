@@ -1,9 +1,8 @@
 -- What a run of `plain` does.
-use Rattle.std.specs.Prelude.{◌≡◌, ℕ, ◌==◌, nat_eq, List, [], ◌∷◌, ◌++◌, length, Option, Some, None, option_map, IfSome, IsTrue, if◌then◌else◌}
+use Rattle.std.specs.Prelude.{◌≡◌, ℕ, nat_eq, List, [], ◌∷◌, ◌++◌, Option, option_map, IfSome, IsTrue}
 use Rattle.std.specs.Option.{option_and_then}
 use Rattle.std.specs.List.{list_any}
 use Rattle.io_edge.specs.Faults.{Rose}
-use Rattle.table_program.specs.declared.outcome.Limit.TheVariants.{Bytes}
 use Rattle.table_program.specs.declared.outcome.Note.{Note}
 use Rattle.table_program.specs.declared.outcome.Note.TheVariants as note
 use Rattle.table_program.specs.declared.reading.ReadFault.{ReadFault}

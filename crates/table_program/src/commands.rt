@@ -163,3 +163,6 @@ pub fn run<R: Threads + Wait + Sync, F: Files, K: Sink, P: Pace>(
 {
     run_plain(alloc, words, files, out)
 }
+
+#[cfg(test)]
+mod tests;

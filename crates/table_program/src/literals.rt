@@ -207,26 +207,3 @@ pub(crate) fn intern_literals(
     let literals = literal_tokens(alloc, tokens)?;
     intern_and_list(alloc, bytes, literals.as_slice(), hold)
 }
-
-#[cfg(test)]
-mod tests {
-    use super::*;
-    use name_scan::{laws, scan};
-
-    #[test]
-    fn keeps_the_last_literals(rt: HostRuntime) -> Result<(), AllocError> {
-        let bytes = b"\"a\" \"b\" \"a\" \"c\" \"b\"";
-        let tokens = scan(rt.alloc(), bytes)?;
-        laws::tokens_are_within();
-        laws::tokens_are_no_more_than_bytes();
-        laws::literals_are_no_more_than_tokens();
-        laws::literals_are_no_longer_than_bytes();
-        let strings = intern_literals(rt.alloc(), bytes, tokens.as_slice(), 2)?;
-        assert_eq!(rt; strings.literals, 5);
-        assert_eq!(rt; strings.counts.created, 3);
-        assert_eq!(rt; strings.counts.found, 2);
-        assert_eq!(rt; strings.counts.killed, 1);
-        assert_eq!(rt; strings.plain.live(), 2);
-        Ok(())
-    }
-}

@@ -2,11 +2,17 @@
 //!
 //! A text is a list of at most 65,535 bytes. Both tables find the bucket of a text by one hash of
 //! its bytes, the polynomial of 31 that HotSpot uses for the bytes of a symbol
-//! (`classfile/javaClasses.hpp`, `java_lang_String::hash_code`).
+//! (`classfile/javaClasses.hpp`, `java_lang_String::hash_code`). A table in shared memory holds a
+//! text as words of 64 bits (`words`), and compares it word by word.
 #![tactic(auto)]
 
 ghost use Rattle.std.specs.Prelude.{◌≡◌};
 ghost use Rattle.text_words.specs.Hash as hash;
+
+pub mod laws;
+pub mod words;
+
+pub use words::{equal_word, pack, unpack, words_of};
 
 /// The hash of a text: from 0 on, for each byte, 31 times what there was plus the byte, modulo 2^32.
 #[inline]

@@ -1,4 +1,4 @@
-use Rattle.std.proofs.Common.{◌≡◌, ℕ, ◌+◌, List, ◌++◌, ◌∷◌, [], arith, sym, ap, refl, ◌∙◌, add-zero}
+use Rattle.std.proofs.Common.{arith, sym, ap, refl, ◌∙◌, add-zero}
 use Rattle.circular_buffer.specs.Buffer.{Buffer}
 use Rattle.intern_log.specs.declared.event.Handle.{Handle}
 use Rattle.table_program.proofs.SymbolSteps.{pushed_out, none_out, after_room, after_full, leaving_is_live, SymbolRun-along, dropped_once}

@@ -1,9 +1,8 @@
-use Rattle.std.proofs.Common.{◌≡◌, ℕ, ◌+◌, List, arith, refl, sym, subst, ◌∙◌, take, length-take, take_all}
+use Rattle.std.proofs.Common.{List, arith, sym, subst, ◌∙◌, take, length-take, take_all}
 use Rattle.std.proofs.lemmas.List.{take_more}
 use Rattle.name_scan.specs.declared.Token.{Token}
 use Rattle.name_scan.specs.FileTexts.{names_among}
 use Rattle.table_program.specs.SymbolRun.{SymbolRun}
-use Rattle.table_program.specs.Symbols.{NamesSoFar}
 use Rattle.table_program.proofs.SymbolNames.{names_begin, created_few}
 use Rattle.table_program.proofs.SymbolTotals.{symbols_of}
 use Rattle.table_program.proofs.names.intern_names.Goals as goal

@@ -1,4 +1,4 @@
-use Rattle.std.proofs.Common.{All, sym, subst, ap, ◌∙◌}
+use Rattle.std.proofs.Common.{All, sym, subst, ◌∙◌}
 use Rattle.name_scan.specs.Places.{IsWithin}
 use Rattle.table_program.specs.Limits.{IsShort}
 use Rattle.table_program.proofs.FileReports.{tokens_within}

@@ -1,5 +1,4 @@
-use Rattle.std.proofs.Common.{◌≡◌, ℕ, List, All, length, sym, ap, subst, ◌∙◌, arith}
-use Rattle.name_scan.specs.declared.Token.{Token}
+use Rattle.std.proofs.Common.{All, length, sym, ap, subst, ◌∙◌, arith}
 use Rattle.name_scan.specs.FileTexts.{names_among, literals_among, names_of, literals_of}
 use Rattle.name_scan.specs.Places.{IsWithin}
 use Rattle.name_scan.proofs.TokenSizes.{length-tokens, length-literals_among}

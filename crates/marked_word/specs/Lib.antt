@@ -1,0 +1,4 @@
+pub mod Count
+pub mod Head
+pub mod Link
+pub mod Meta
