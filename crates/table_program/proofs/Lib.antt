@@ -1,4 +1,5 @@
 pub mod Written
+pub mod Options
 pub mod FinalItems
 pub mod Holds
 pub mod LiveTexts

@@ -12,13 +12,8 @@ use Rattle.name_scan.specs.FileTexts.{is_name, is_literal, text_of, texts_among,
 use Rattle.table_program.specs.declared.outcome.Limit.TheVariants.{Text, Names, Literals}
 use Rattle.table_program.specs.declared.outcome.Note.{Note}
 use Rattle.table_program.specs.declared.outcome.Note.TheVariants as note
+use Rattle.table_program.proofs.Options.{no_item}
 use Rattle.table_program.specs.Limits.{most_names, most_literals, long_length, above, tokens_note, IsShort}
-
-no_item : {n : ℕ} → Some n ≡ None → ⊥
-no_item is = cc
-
-no_note : {n : Note} → Some n ≡ None → ⊥
-no_note is = cc
 
 -- the rest of the tokens from a place on begins with the token there
 rest_from : (bytes : List ℕ) (found : List Token) (i : ℕ) (d : Token) → i < length found →
@@ -40,7 +35,7 @@ finds_long bytes found i d within long =
 -- where no text is too long each token is short
 one_short : (bytes : List ℕ) (t : Token) (rest : Option ℕ) (Rest : Type 0) (long : Bool) → nat_lt MAX_TEXT (length (text_of bytes t)) ≡ long → (rest ≡ None → Rest) →
     cond long (Some (length (text_of bytes t))) rest ≡ None → IsShort bytes t × Rest
-one_short bytes t rest Rest true is others some = absurd (no_item some)
+one_short bytes t rest Rest true is others some = absurd (no_item _ some)
 one_short bytes t rest Rest false is others none = (ltb-false MAX_TEXT (length (text_of bytes t)) is, others none)
 
 each_short : (bytes : List ℕ) (found : List Token) → long_length (texts_among bytes found) ≡ None → AllByRecursion (IsShort bytes) found
@@ -58,7 +53,7 @@ within_limits bytes found none = first_none (long_length (texts_among bytes foun
     first_none : (o : Option ℕ) → option_or (option_or (option_map (λ n. note.Limit Text n) o) (above Names most_names (length (names_among bytes found))))
         (above Literals most_literals (length (literals_among bytes found))) ≡ None → o ≡ None
     first_none None is = refl
-    first_none (Some n) is = absurd (no_note is)
+    first_none (Some n) is = absurd (no_item _ is)
 
 -- how many names and literals there are
 pub name_count_is : (bytes : List ℕ) (found : List Token) → length (names_among bytes found) ≡ count_by (λ (t : Token). is_name t.kind) found

@@ -18,6 +18,7 @@ use Rattle.table_report.specs.declared.SymbolCounts.{SymbolCounts}
 use Rattle.table_program.specs.Holding.{Held, Holds}
 use Rattle.table_program.specs.OneSeatLog.{OneSeatLog}
 use Rattle.table_program.specs.SymbolRun.{held_texts, held_handles, CountsOf, CountsOneMore, SymbolRun, NameInterned}
+use Rattle.table_program.proofs.Options.{no_item, same_item}
 use Rattle.table_program.proofs.Pushes.{count-push, OneSeatLog-push}
 use Rattle.table_program.proofs.FinalItems.{Leaves, finals-push_room, finals-push_full, finals-map, length-finals, finals-again}
 use Rattle.table_program.proofs.Holds.{Holds-create, Holds-take, Holds-drop, held_is_live}
@@ -30,9 +31,6 @@ intern_holds m held t h what holds (inl is) allowed few =
 intern_holds m held t h what holds (inr is) allowed few =
     let take : Allows m (Take t h) = subst (Allows m) is allowed in
     subst (λ w. Holds (next m w) (held ++ (t, h) ∷ [])) (sym is) (Holds-take m held t h holds take few)
-
-no_item : {X : Type 0} (x : X) → Some x ≡ None → ⊥
-no_item x equal = cc
 
 -- an item of a mapped list
 slice_get-map : {X Y : Type 0} (f : X → Y) (xs : List X) (i : ℕ) (x : X) → slice_get xs i ≡ Some x → slice_get (map f xs) i ≡ Some (f x)
@@ -79,9 +77,6 @@ let_go_room hold handles room = ap (λ b. cond b (dropped_from (slice_get handle
 
 let_go_full : (hold : ℕ) (handles : List Handle) (k : Handle) → hold < length handles → slice_get handles (length handles - 1 - hold) ≡ Some k → let_go hold handles ≡ Drop k ∷ []
 let_go_full hold handles k full is = ap (λ b. cond b (dropped_from (slice_get handles (length handles - 1 - hold))) []) (lt-ltb hold (length handles) full) ∙ ap dropped_from is
-
-same_item : {X : Type 0} (x y : X) → Some x ≡ Some y → x ≡ y
-same_item x y is = cc
 
 module _ (hold : ℕ) (names : List (List ℕ)) (name : List ℕ) (h : Handle) (texts : TextMap) (created : ℕ) (window : List Handle) (counts : SymbolCounts)
     (now : NameInterned hold names name h texts created window counts) where

@@ -1,5 +1,5 @@
 -- What a run of `plain` does.
-use Rattle.std.specs.Prelude.{◌≡◌, ℕ, nat_eq, List, [], ◌∷◌, ◌++◌, Option, option_map, IfSome, IsTrue}
+use Rattle.std.specs.Prelude.{String, ◌≡◌, ℕ, nat_eq, List, [], ◌∷◌, ◌++◌, Option, option_map, IfSome, IsTrue}
 use Rattle.std.specs.Option.{option_and_then}
 use Rattle.std.specs.List.{list_any}
 use Rattle.io_edge.specs.Faults.{Rose}
@@ -12,11 +12,11 @@ use Rattle.table_program.specs.Words.{plain_name}
 use Rattle.table_program.specs.Writing.{WritesPart}
 
 -- the bytes of the file that the words name, where they are told
-abbrev pub told_file : (List ℕ → Option (List ℕ)) → List (List ℕ) → Option (List ℕ)
+abbrev pub told_file : {A : Type 0} → (List ℕ → Option (List ℕ)) → List (String A) → Option (List ℕ)
 told_file bytes_of words = option_and_then bytes_of (plain_name words)
 
 -- the count of faults of the file that the words name rose
-abbrev pub NamedRose : List (List ℕ) → (List ℕ → ℕ) → (List ℕ → ℕ) → Type 0
+abbrev pub NamedRose : {A : Type 0} → List (String A) → (List ℕ → ℕ) → (List ℕ → ℕ) → Type 0
 NamedRose words old new = IfSome (plain_name words) (λ name. Rose (old name) (new name))
 
 -- whether the status is one of these

@@ -4,7 +4,7 @@ ghost use Rattle.std.specs.Option.{option_copied};
 ghost use Rattle.table_program.specs.Limits.{limit_note};
 ghost use Rattle.table_program.specs.declared.limits.TheConstants.{MOST_BYTES};
 ghost use Rattle.io_edge.specs.Faults.{Rose};
-ghost use Rattle.table_program.specs.Words as words_spec;
+ghost use Rattle.table_program.specs.Words.{plain_name};
 ghost use Rattle.table_program.specs.PlainRun.{told_file, NamedRose, IsOneOf, IsPlainNote, status_of, WritesReport, WritesPartOfReport};
 
 use crate::limits::MOST_BYTES;
@@ -19,7 +19,7 @@ use std::thread::Threads;
 
 /// The name of the file, where the words are `plain` and one more.
 fn plain_name(words: &[String]) -> Option<&str>
-    ensures name { option_copied result ≡ words_spec.plain_name (words_spec.words_of words.now) }
+    ensures name { option_copied result ≡ plain_name words.now }
 {
     match words {
         [command, name] if command.as_str() == "plain" => Some(name.as_str()),
@@ -75,29 +75,29 @@ pub fn run_plain<F: Files, K: Sink>(
     files: &mut F,
     out: &mut K,
 ) -> Outcome
-    ensures usage { (result.status ≡ 1) ↔ (words_spec.plain_name (words_spec.words_of words.now) ≡ None) }
+    ensures usage { (result.status ≡ 1) ↔ (plain_name words.now ≡ None) }
     ensures read_fault { result.status ≡ 2 →
-        NamedRose (words_spec.words_of words.now) (F.faults files.old) (F.faults files.new) }
+        NamedRose words.now (F.faults files.old) (F.faults files.new) }
     ensures write_fault { result.status ≡ 3 → Rose (K.faults out.old) (K.faults out.new) }
     ensures over_limit { result.status ≡ 4 →
-        IfSome (told_file (F.bytes_of files.old) (words_spec.words_of words.now)) (λ bytes. limit_note bytes ≡ Some result.note) }
-    ensures limit { IfSome (told_file (F.bytes_of files.old) (words_spec.words_of words.now))
+        IfSome (told_file (F.bytes_of files.old) words.now) (λ bytes. limit_note bytes ≡ Some result.note) }
+    ensures limit { IfSome (told_file (F.bytes_of files.old) words.now)
         (λ bytes. IsSome (limit_note bytes) → IsOneOf (2 ∷ 4 ∷ 6 ∷ []) result.status) }
 
     ensures report { result.status ≡ 0 →
-        IfSome (told_file (F.bytes_of files.old) (words_spec.words_of words.now))
+        IfSome (told_file (F.bytes_of files.old) words.now)
         (λ bytes. WritesReport bytes (K.written out.old) (K.written out.new)) }
     ensures read_to_end { result.status ≡ 0 →
-        IsSome (told_file (F.bytes_of files.old) (words_spec.words_of words.now)) → F.rest files.new ≡ Some [] }
+        IsSome (told_file (F.bytes_of files.old) words.now) → F.rest files.new ≡ Some [] }
     ensures part_of_report { result.status ≡ 3 →
-        IfSome (told_file (F.bytes_of files.old) (words_spec.words_of words.now))
+        IfSome (told_file (F.bytes_of files.old) words.now)
         (λ bytes. WritesPartOfReport bytes (K.written out.old) (K.written out.new)) }
     ensures untouched { result.status ≢ 0 → result.status ≢ 3 → out.new ≡ out.old }
 
     // Where the words are accepted, the limit is kept and no count of faults rose, only memory can be wanting.
-    ensures complete { IfSome (told_file (F.bytes_of files.old) (words_spec.words_of words.now))
+    ensures complete { IfSome (told_file (F.bytes_of files.old) words.now)
         (λ bytes. limit_note bytes ≡ None
-        → ¬ (NamedRose (words_spec.words_of words.now) (F.faults files.old) (F.faults files.new))
+        → ¬ (NamedRose words.now (F.faults files.old) (F.faults files.new))
         → ¬ (Rose (K.faults out.old) (K.faults out.new))
         → IsOneOf (0 ∷ 6 ∷ []) result.status) }
     ensures statuses { IsOneOf (0 ∷ 1 ∷ 2 ∷ 3 ∷ 4 ∷ 6 ∷ []) result.status }
@@ -129,29 +129,29 @@ pub fn run<R: Threads + Wait + Sync, F: Files, K: Sink, P: Pace>(
     out: &mut K,
     _pace: &P,
 ) -> Outcome
-    ensures usage { (result.status ≡ 1) ↔ (words_spec.plain_name (words_spec.words_of words.now) ≡ None) }
+    ensures usage { (result.status ≡ 1) ↔ (plain_name words.now ≡ None) }
     ensures read_fault { result.status ≡ 2 →
-        NamedRose (words_spec.words_of words.now) (F.faults files.old) (F.faults files.new) }
+        NamedRose words.now (F.faults files.old) (F.faults files.new) }
     ensures write_fault { result.status ≡ 3 → Rose (K.faults out.old) (K.faults out.new) }
     ensures over_limit { result.status ≡ 4 →
-        IfSome (told_file (F.bytes_of files.old) (words_spec.words_of words.now)) (λ bytes. limit_note bytes ≡ Some result.note) }
-    ensures limit { IfSome (told_file (F.bytes_of files.old) (words_spec.words_of words.now))
+        IfSome (told_file (F.bytes_of files.old) words.now) (λ bytes. limit_note bytes ≡ Some result.note) }
+    ensures limit { IfSome (told_file (F.bytes_of files.old) words.now)
         (λ bytes. IsSome (limit_note bytes) → IsOneOf (2 ∷ 4 ∷ 6 ∷ []) result.status) }
 
     ensures report { result.status ≡ 0 →
-        IfSome (told_file (F.bytes_of files.old) (words_spec.words_of words.now))
+        IfSome (told_file (F.bytes_of files.old) words.now)
         (λ bytes. WritesReport bytes (K.written out.old) (K.written out.new)) }
     ensures read_to_end { result.status ≡ 0 →
-        IsSome (told_file (F.bytes_of files.old) (words_spec.words_of words.now)) → F.rest files.new ≡ Some [] }
+        IsSome (told_file (F.bytes_of files.old) words.now) → F.rest files.new ≡ Some [] }
     ensures part_of_report { result.status ≡ 3 →
-        IfSome (told_file (F.bytes_of files.old) (words_spec.words_of words.now))
+        IfSome (told_file (F.bytes_of files.old) words.now)
         (λ bytes. WritesPartOfReport bytes (K.written out.old) (K.written out.new)) }
     ensures untouched { result.status ≢ 0 → result.status ≢ 3 → out.new ≡ out.old }
 
     // Where the words are accepted, the limit is kept and no count of faults rose, only memory can be wanting.
-    ensures complete { IfSome (told_file (F.bytes_of files.old) (words_spec.words_of words.now))
+    ensures complete { IfSome (told_file (F.bytes_of files.old) words.now)
         (λ bytes. limit_note bytes ≡ None
-        → ¬ (NamedRose (words_spec.words_of words.now) (F.faults files.old) (F.faults files.new))
+        → ¬ (NamedRose words.now (F.faults files.old) (F.faults files.new))
         → ¬ (Rose (K.faults out.old) (K.faults out.new))
         → IsOneOf (0 ∷ 6 ∷ []) result.status) }
     ensures statuses { IsOneOf (0 ∷ 1 ∷ 2 ∷ 3 ∷ 4 ∷ 6 ∷ []) result.status }
