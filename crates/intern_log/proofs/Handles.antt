@@ -26,7 +26,7 @@ KeepsHandles change = (e f : Entry) → change e ≡ Some f → f.handle ≡ e.h
 abbrev WasThere : Option Entry → Handle → Type 0
 WasThere before h = (e : Entry) × (before ≡ Some e) × (h ≡ e.handle)
 
-same_entry : (e f : Entry) → Some e ≡ Some f → f.handle ≡ e.handle
+pub same_entry : (e f : Entry) → Some e ≡ Some f → f.handle ≡ e.handle
 same_entry e f is = let same : e ≡ f = cc in ap (λ (x : Entry). x.handle) (sym same)
 
 one_of : (change other : Entry → Option Entry) (b : Bool) → KeepsHandles change → KeepsHandles other → KeepsHandles (λ e. cond b (change e) (other e))
@@ -36,7 +36,7 @@ one_of change other false keeps others e f is = others e f is
 stays_keeps : KeepsHandles (λ e. Some e)
 stays_keeps e f is = same_entry e f is
 
-lowered_keeps : KeepsHandles lowered
+pub lowered_keeps : KeepsHandles lowered
 lowered_keeps e f is =
     one_of (λ x. Some x) (λ x. cond (nat_le e.count 1) None (Some (record x { count = x.count - 1 }))) (e.count == PERMANENT) stays_keeps
     (one_of (λ x. None) (λ x. Some (record x { count = x.count - 1 })) (nat_le e.count 1) (λ x y no. absurd (cc)) (λ x y same. same_entry (record x { count = x.count - 1 }) y same)) e f is
@@ -78,7 +78,7 @@ origin ResizeGiven t o f is = inl (f, is, refl)
 origin (Level l) t o f is = inl (f, is, refl)
 
 -- the same of the map
-origin_in_map : (m : TextMap) (what : What) (t : List ℕ) (h : Handle) → HasHandle (next m what) t h → HasHandle m t h ⊎ (what ≡ Create t h)
+pub origin_in_map : (m : TextMap) (what : What) (t : List ℕ) (h : Handle) → HasHandle (next m what) t h → HasHandle m t h ⊎ (what ≡ Create t h)
 origin_in_map m what t h has =
     elim (origin what t (entry_of m t) has.0 (sym (entry_of-next m what t) ∙ has.1)) [
       | inl was ↦ inl (was.0, was.1, sym was.2 ∙ has.2)
@@ -110,7 +110,7 @@ pub HandlesDiffer-after : (m : TextMap) (log : List Event) → HandlesDiffer m �
 HandlesDiffer-after m [] differ legal = differ
 HandlesDiffer-after m (e ∷ log) differ legal = HandlesDiffer-after (next m e.what) log (HandlesDiffer-next m e.what differ legal.0) legal.1
 
-no_text_has : (t : List ℕ) (h : Handle) → HasHandle no_texts t h → ⊥
+pub no_text_has : (t : List ℕ) (h : Handle) → HasHandle no_texts t h → ⊥
 no_text_has t h has = let none : entry_of no_texts t ≡ None = finite.get-empty (slice_cmp nat_cmp) t in absurd (cc)
 
 pub HandlesDiffer-none : HandlesDiffer no_texts
@@ -119,7 +119,7 @@ HandlesDiffer-none t u h at_t at_u = absurd (no_text_has t h at_t)
 pub live_handles_differ_lem : (log : List Event) → IsLegal log → HandlesDiffer (map_of log)
 live_handles_differ_lem log legal = HandlesDiffer-after no_texts log HandlesDiffer-none legal
 
-both_hold : (x y : Bool) → (x && y) ≡ true → (x ≡ true) × (y ≡ true)
+pub both_hold : (x y : Bool) → (x && y) ≡ true → (x ≡ true) × (y ≡ true)
 both_hold true y is = (refl, is)
 both_hold false y is = absurd (not_so is)
   where

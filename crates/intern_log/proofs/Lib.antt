@@ -2,3 +2,10 @@ pub mod Entries
 pub mod Logs
 pub mod Handles
 pub mod PlainLogLaws
+pub mod LawfulLaws
+pub mod Gone
+pub mod Slots
+pub mod Graced
+pub mod Careful
+pub mod OrderlyLaws
+pub mod Ledger

@@ -6,3 +6,8 @@ pub mod Window
 pub mod Buckets
 pub mod Finals
 pub mod PlainLogs
+pub mod Now
+pub mod Lawful
+pub mod Sections
+pub mod Orderly
+pub mod Ledger

@@ -8,6 +8,7 @@
 #![tactic(auto)]
 
 pub mod event;
+pub mod lawful_logs;
 pub mod laws;
 pub mod text;
 

@@ -1,0 +1,65 @@
+-- Sections and slots in the words of a log: which is open, taken or linked at its end, and what a graced log keeps.
+use Rattle.std.specs.Prelude.{◌≡◌, ℕ, Bool, true, false, nat_eq, List, ◌∷◌, ◌++◌}
+use Rattle.std.specs.List.{list_any}
+use Rattle.intern_log.specs.declared.event.Handle.{Handle}
+use Rattle.intern_log.specs.declared.event.Event.{Event}
+use Rattle.intern_log.specs.declared.event.What.{What}
+use Rattle.intern_log.specs.declared.event.What.TheVariants.{Create, Claim, Free, Open, Close, Unlink}
+use Rattle.intern_log.specs.TextMap.{IsLive}
+use Rattle.intern_log.specs.Log.{map_of}
+
+-- whether the event gives the slot back, takes it out of its chain, or closes the section of the number
+abbrev pub frees : ℕ → What → Bool
+frees s (Free x) = nat_eq s x
+frees s _ = false
+
+abbrev pub unlinks : ℕ → What → Bool
+unlinks s (Unlink x) = nat_eq s x
+unlinks s _ = false
+
+abbrev pub closes : ℕ → ℕ → What → Bool
+closes k seat Close = nat_eq k seat
+closes k seat _ = false
+
+-- whether one of the events does
+abbrev pub some_frees : ℕ → List Event → Bool
+some_frees s log = list_any (λ (e : Event). frees s e.what) log
+
+abbrev pub some_unlinks : ℕ → List Event → Bool
+some_unlinks s log = list_any (λ (e : Event). unlinks s e.what) log
+
+abbrev pub some_closes : ℕ → List Event → Bool
+some_closes k log = list_any (λ (e : Event). closes k e.seat e.what) log
+
+-- an event by a seat, between what comes before and after it
+abbrev pub with_event : List Event → ℕ → What → List Event → List Event
+with_event front seat what back = front ++ record { seat = seat; what = what } ∷ back
+
+-- the number has opened its section, and has not closed it since
+abbrev pub IsOpenIn : List Event → ℕ → Type 0
+IsOpenIn log k = (front back : List Event) × (counter : ℕ) × (log ≡ with_event front k (Open counter) back) × (some_closes k back ≡ false)
+
+-- the slot was claimed, and was not freed since
+abbrev pub IsTakenIn : List Event → ℕ → Type 0
+IsTakenIn log s = (front back : List Event) × (seat : ℕ) × (log ≡ with_event front seat (Claim s) back) × (some_frees s back ≡ false)
+
+-- an entry was created in the slot, with this text and handle, and the slot was not unlinked since
+abbrev pub IsLinkedAs : List Event → ℕ → List ℕ → Handle → Type 0
+IsLinkedAs log s text h = (front back : List Event) × (seat : ℕ) × (log ≡ with_event front seat (Create text h) back) × (h.slot ≡ s) × (some_unlinks s back ≡ false)
+
+abbrev pub IsLinkedIn : List Event → ℕ → Type 0
+IsLinkedIn log s = (text : List ℕ) × (h : Handle) × IsLinkedAs log s text h
+
+-- a graced log: a slot is claimed only where it is not taken, and freed only where it is taken and not linked;
+-- between an Unlink of a slot and its next Free, every section that was open at the Unlink is closed
+pub record IsGraced (log : List Event) : Type 0 where
+  pub claimed : (front back : List Event) (seat s : ℕ) → log ≡ with_event front seat (Claim s) back → ¬ (IsTakenIn front s)
+  pub freed : (front back : List Event) (seat s : ℕ) → log ≡ with_event front seat (Free s) back → IsTakenIn front s × ¬ (IsLinkedIn front s)
+  pub closed : (front between back : List Event) (unlinker freer s k : ℕ) →
+      log ≡ with_event front unlinker (Unlink s) (with_event between freer (Free s) back) → some_frees s between ≡ false →
+      IsOpenIn front k → some_closes k between ≡ true
+
+-- a careful log: a slot is unlinked only where it is linked and its handle's entry is gone from the map
+abbrev pub IsCareful : List Event → Type 0
+IsCareful log = (front back : List Event) (seat s : ℕ) → log ≡ with_event front seat (Unlink s) back →
+    (text : List ℕ) × (h : Handle) × IsLinkedAs front s text h × ¬ (IsLive (map_of front) h)
