@@ -7,7 +7,8 @@ use Rattle.intern_log.specs.declared.event.Event.{Event}
 use Rattle.intern_log.specs.declared.event.What.TheVariants.{Create}
 use Rattle.intern_log.specs.TextMap.{IsLive}
 use Rattle.intern_log.specs.Now.{Phase, Vacant, Claimed, Linked, Unlinked, Now, opening, now_after_event, now_after}
-use Rattle.intern_log.specs.Lawful.{TableKind, IsLinkedDead, IsAllowedFrom, IsLawful}
+use Rattle.intern_log.specs.declared.event.TableKind.{TableKind}
+use Rattle.intern_log.specs.Lawful.{IsLinkedDead, IsAllowedFrom, IsLawful}
 use Rattle.intern_log.specs.Sections.{unlinks, IsLinkedAs, IsCareful}
 use Rattle.intern_log.proofs.LawfulLaws.{texts-now_after, IsAllowedFrom-prefix, IsAllowedFrom-rest}
 use Rattle.intern_log.proofs.Slots.{slot_after}

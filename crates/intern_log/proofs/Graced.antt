@@ -8,7 +8,8 @@ use Rattle.intern_log.specs.declared.event.Event.{Event}
 use Rattle.intern_log.specs.declared.event.What.{What}
 use Rattle.intern_log.specs.declared.event.What.TheVariants.{Create, Claim, Free, Open, Unlink}
 use Rattle.intern_log.specs.Now.{Phase, Vacant, Claimed, Linked, Unlinked, OpenSection, Now, with_at, opening, now_after_event, now_after}
-use Rattle.intern_log.specs.Lawful.{TableKind, IsLinkedDead, MayFree, IsAllowedFrom, IsLawful}
+use Rattle.intern_log.specs.declared.event.TableKind.{TableKind}
+use Rattle.intern_log.specs.Lawful.{IsLinkedDead, MayFree, IsAllowedFrom, IsLawful}
 use Rattle.intern_log.specs.Sections.{frees, some_frees, some_closes, with_event, IsOpenIn, IsTakenIn, IsLinkedIn, IsGraced}
 use Rattle.intern_log.proofs.LawfulLaws.{now_after-append, IsAllowedFrom-prefix, IsAllowedFrom-rest}
 use Rattle.intern_log.proofs.Slots.{slot_after, unlinked_until_free, taken_until_free, linked_until_unlink, open_until_close, OpenedBefore, opened_before-after, opened_before-opening}

@@ -5,7 +5,8 @@ use Rattle.intern_log.specs.declared.event.What.{What}
 use Rattle.intern_log.specs.declared.event.What.TheVariants.{Create, Take, Found, Drop, Perm, Kill, Claim, Free, Open, Close, Grace, Lock, Unlock, Unlink, ResizeTaken, ResizeGiven, Level}
 use Rattle.intern_log.specs.Log.{Allows, map_after, IsLegalFrom, IsLegal, HandlesDiffer, map_of}
 use Rattle.intern_log.specs.Now.{Now, opening, now_after_event, now_after}
-use Rattle.intern_log.specs.Lawful.{TableKind, MayFollow, IsAllowedFrom, IsLawful}
+use Rattle.intern_log.specs.declared.event.TableKind.{TableKind}
+use Rattle.intern_log.specs.Lawful.{MayFollow, IsAllowedFrom, IsLawful}
 use Rattle.intern_log.proofs.Logs.{IsFresh-prefix}
 use Rattle.intern_log.proofs.Handles.{live_handles_differ_lem}
 

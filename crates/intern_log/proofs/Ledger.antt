@@ -22,7 +22,8 @@ use Rattle.intern_log.specs.Log.{next, new_entry, raised, lowered, made_permanen
 use Rattle.intern_log.specs.Own.{is_gain, is_loss, gains, losses}
 use Rattle.intern_log.specs.Counts.{is_kill}
 use Rattle.intern_log.specs.Now.{Now, opening, now_after_event}
-use Rattle.intern_log.specs.Lawful.{TableKind, MayFollow, IsAllowedFrom, IsLawful}
+use Rattle.intern_log.specs.declared.event.TableKind.{TableKind}
+use Rattle.intern_log.specs.Lawful.{MayFollow, IsAllowedFrom, IsLawful}
 use Rattle.intern_log.specs.Ledger.{MeetsLedger}
 use Rattle.intern_log.proofs.Entries.{entry_of-next}
 use Rattle.intern_log.proofs.Handles.{KeepsHandles, lowered_keeps, same_entry, handle_eq-Decides, HandlesDiffer-next, HandlesDiffer-none, no_text_has}

@@ -12,7 +12,8 @@ use Rattle.intern_log.specs.declared.event.What.{What}
 use Rattle.intern_log.specs.declared.event.What.TheVariants.{Create, Take, Found, Drop, Perm, Kill, Claim, Free, Open, Close, Grace, Lock, Unlock, Unlink, ResizeTaken, ResizeGiven, Level}
 use Rattle.intern_log.specs.Counts.{events_in}
 use Rattle.intern_log.specs.Now.{Unlinked, OpenSection, Resizing, Now, opening, changed_by, now_after_event, now_after, with_lock}
-use Rattle.intern_log.specs.Lawful.{TableKind, MayFollow, IsResizing, IsAllowedFrom, IsLawful}
+use Rattle.intern_log.specs.declared.event.TableKind.{TableKind}
+use Rattle.intern_log.specs.Lawful.{MayFollow, IsResizing, IsAllowedFrom, IsLawful}
 use Rattle.intern_log.specs.Sections.{closes, some_frees, with_event, IsOpenIn}
 use Rattle.intern_log.specs.Orderly.{is_grace, is_resize_given, ends_lock, some_ends_lock, HasResizeLock, IsLockedBy, level_after_event, level_after, IsOrderly}
 use Rattle.intern_log.proofs.LawfulLaws.{IsAllowedFrom-prefix, IsAllowedFrom-rest}

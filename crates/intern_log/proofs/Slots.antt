@@ -9,7 +9,8 @@ use Rattle.intern_log.specs.declared.event.What.{What}
 use Rattle.intern_log.specs.declared.event.What.TheVariants.{Create, Take, Found, Drop, Perm, Kill, Claim, Free, Open, Close, Grace, Lock, Unlock, Unlink, ResizeTaken, ResizeGiven, Level}
 use Rattle.intern_log.proofs.Handles.{both_hold}
 use Rattle.intern_log.specs.Now.{Phase, Vacant, Claimed, Linked, Unlinked, OpenSection, Resizing, Now, opening, changed_by, now_after_event, now_after}
-use Rattle.intern_log.specs.Lawful.{TableKind, IsLinkedDead, MayFree, MayFollow, IsAllowedFrom}
+use Rattle.intern_log.specs.declared.event.TableKind.{TableKind}
+use Rattle.intern_log.specs.Lawful.{IsLinkedDead, MayFree, MayFollow, IsAllowedFrom}
 use Rattle.intern_log.specs.Sections.{frees, unlinks, closes, some_frees, some_unlinks, some_closes}
 use Rattle.intern_log.specs.Orderly.{ends_lock, is_resize_given}
 

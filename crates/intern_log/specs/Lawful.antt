@@ -3,18 +3,12 @@ use Rattle.std.specs.Prelude.{◌≡◌, ℕ, ◌+◌, ◌*◌, ◌<◌, ◌≤�
 use Rattle.intern_log.specs.declared.event.Event.{Event}
 use Rattle.intern_log.specs.declared.event.Kind.{Kind}
 use Rattle.intern_log.specs.declared.event.Kind.TheVariants.{Counted, Weak}
+use Rattle.intern_log.specs.declared.event.TableKind.{TableKind}
 use Rattle.intern_log.specs.declared.event.What.{What}
 use Rattle.intern_log.specs.declared.event.What.TheVariants.{Create, Take, Found, Drop, Perm, Kill, Claim, Free, Open, Close, Grace, Lock, Unlock, Unlink, ResizeTaken, ResizeGiven, Level}
 use Rattle.intern_log.specs.TextMap.{IsLive}
 use Rattle.intern_log.specs.Log.{Allows, IsFresh}
 use Rattle.intern_log.specs.Now.{Phase, Vacant, Claimed, Linked, Unlinked, OpenSection, Resizing, Now, now_after_event, opening}
-
--- the table that a log is of: how it keeps its entries, its levels, and the counter that it began with
-pub record TableKind : Type 0 where
-  pub kind : Kind
-  pub min_level : ℕ
-  pub max_level : ℕ
-  pub first_counter : ℕ
 
 -- the seat has the resize lock
 abbrev pub IsResizing : Now → ℕ → Type 0

@@ -7,7 +7,7 @@ use Rattle.intern_log.specs.declared.event.Kind.TheVariants.{Counted, Weak}
 use Rattle.intern_log.specs.declared.event.What.{What}
 use Rattle.intern_log.specs.declared.event.What.TheVariants.{Take, Found, Drop, Perm, Kill, Open, Close, Grace, Lock, Unlock, Unlink, ResizeTaken, ResizeGiven, Level}
 use Rattle.intern_log.specs.Counts.{events_in}
-use Rattle.intern_log.specs.Lawful.{TableKind}
+use Rattle.intern_log.specs.declared.event.TableKind.{TableKind}
 use Rattle.intern_log.specs.Sections.{some_frees, with_event, IsOpenIn}
 
 abbrev pub is_grace : What → Bool

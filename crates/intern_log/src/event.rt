@@ -30,6 +30,19 @@ pub enum Kind {
     Weak,
 }
 
+/// The table that a log is of.
+#[derive(Clone, Copy, Debug, PartialEq, Eq)]
+pub struct TableKind {
+    /// How it keeps its entries.
+    pub kind: Kind,
+    /// Its level at first, which is its least one.
+    pub min_level: u8,
+    /// Its greatest level.
+    pub max_level: u8,
+    /// Its grace counter at first.
+    pub first_counter: u64,
+}
+
 /// What letting go of a counted handle came to.
 #[derive(Clone, Copy, Debug, PartialEq, Eq)]
 pub enum Released {

@@ -12,5 +12,5 @@ pub mod lawful_logs;
 pub mod laws;
 pub mod text;
 
-pub use event::{Entry, Event, Handle, Kind, PERMANENT, Released, What};
+pub use event::{Entry, Event, Handle, Kind, PERMANENT, Released, TableKind, What};
 pub use text::{MAX_TEXT, Text, TextFault};
