@@ -12,3 +12,4 @@ pub mod Sections
 pub mod Orderly
 pub mod Ledger
 pub mod Kept
+pub mod Faults
