@@ -13,3 +13,4 @@ pub mod Maps
 pub mod Changes
 pub mod Kept
 pub mod FaultLaws
+pub mod Sizes

@@ -1,3 +1,1 @@
-pub mod Maps
-pub mod Kept
-pub mod Events
+pub mod GivenOut

@@ -6,13 +6,9 @@ ghost use Rattle.intern_log.specs.TextMap.{no_texts, entry_of, live_texts, IsLiv
 ghost use Rattle.intern_log.specs.Buckets.{longest_bucket};
 ghost use Rattle.plain_interner.specs.State.{Follows, event_of, HasNewSlot, IsOfKind, released_of, references_of};
 
-use crate::fields::{
-    Entries, Texts, add_both, entry_at, live_entry, longest, raised, references, remove_both,
-    set_entry,
-};
-use intern_log::{Entry, Handle, Kind, MAX_TEXT, PERMANENT, Released, What};
+use crate::numbers::{longest, references};
+use intern_log::{Handle, Kind, MAX_TEXT, PERMANENT, Released, Replay, What};
 use std::alloc::{AllocError, Global};
-use std::collections::BTreeMap;
 use std::marker::Model;
 
 /// What an intern came to.
@@ -30,10 +26,8 @@ pub enum PlainInterned {
 /// it gave out.
 #[derive(Drop)]
 pub struct Plain {
-    alloc: Global,
     kind: Kind,
-    entries: Entries,
-    texts: Texts,
+    replay: Replay,
     created: u32,
 }
 
@@ -44,12 +38,11 @@ impl Model for Plain {
 
     ghost coded = { state_code };
 
-    ghost use Rattle.std.specs.BTreeMap.{btree_map_len};
-    ghost use Rattle.plain_interner.specs.View.{text_map, IsKept};
+    ghost use Rattle.plain_interner.specs.View.{IsGivenOut};
 
-    ghost view = { λ p. record { kind = p.kind; texts = text_map p.entries.entries; created = p.created } };
+    ghost view = { λ p. record { kind = p.kind; texts = p.replay; created = p.created } };
 
-    ghost invariant = { λ p. IsKept (text_map p.entries.entries) (btree_map_len p.entries) p.texts.entries p.created };
+    ghost invariant = { λ p. IsGivenOut p.replay p.created };
 }
 
 impl Plain {
@@ -58,10 +51,8 @@ impl Plain {
         ensures empty { result ≡ record { kind = kind; texts = no_texts; created = 0 } }
     {
         Plain {
-            alloc,
             kind,
-            entries: BTreeMap::new(alloc),
-            texts: BTreeMap::new(alloc),
+            replay: Replay::new(alloc),
             created: 0,
         }
     }
@@ -91,18 +82,18 @@ impl Plain {
         ensures kinds { IfOk result (IsOfKind self.old.kind) }
         ensures err { OnErr result (self.new ≡ self.old) }
     {
-        let Some(entry) = entry_at(&self.entries, text) else {
+        let Some(entry) = self.replay.entry(text) else {
             let handle = Handle {
                 slot: self.created,
                 generation: 0,
             };
-            add_both(self.alloc, &mut self.entries, &mut self.texts, text, handle)?;
+            self.replay.create(text, handle)?;
             self.created += 1;
             return Ok(PlainInterned::Created(handle));
         };
         match self.kind {
             Kind::Counted => {
-                set_entry(&mut self.entries, text, raised(entry));
+                self.replay.take(text);
                 Ok(PlainInterned::Taken(entry.handle))
             }
             Kind::Weak => Ok(PlainInterned::Found(entry.handle)),
@@ -118,26 +109,11 @@ impl Plain {
         ensures answer { (text : List ℕ) (e : Entry)
             → entry_of self.old.texts text ≡ Some e → e.handle ≡ handle → result ≡ released_of e.count }
     {
-        let Some((text, entry)) = live_entry(&self.entries, &self.texts, handle) else {
-            unreachable!()
-        };
-        if entry.count == PERMANENT {
+        let count = self.replay.lower(handle);
+        if count == PERMANENT {
             return Released::Permanent;
         }
-        if entry.count > 1 {
-            let left = entry.count - 1;
-            set_entry(
-                &mut self.entries,
-                text,
-                Entry {
-                    handle,
-                    count: left,
-                },
-            );
-            return Released::Dropped { left };
-        }
-        remove_both(&mut self.entries, &mut self.texts, handle.slot);
-        Released::Dropped { left: 0 }
+        Released::Dropped { left: count - 1 }
     }
 
     /// Takes an entry out of a weak interner. The answer is whether the handle was live; where it
@@ -151,7 +127,7 @@ impl Plain {
         if !self.is_live(handle) {
             return false;
         }
-        remove_both(&mut self.entries, &mut self.texts, handle.slot);
+        self.replay.remove(handle);
         true
     }
 
@@ -159,21 +135,21 @@ impl Plain {
     pub fn is_live(&self, handle: Handle) -> bool
         ensures live { IsTrue result ↔ IsLive self.now.texts handle }
     {
-        live_entry(&self.entries, &self.texts, handle).is_some()
+        self.replay.is_live(handle)
     }
 
     /// How many texts are live.
     pub fn live(&self) -> u32
         ensures live { result ≡ length (live_texts self.now.texts) }
     {
-        self.entries.len() as u32
+        self.replay.entries().len() as u32
     }
 
     /// How many holds the entries count together; permanent entries count none.
     pub fn references(&self) -> u64
         ensures references { result ≡ references_of self.now.texts }
     {
-        references(&self.entries)
+        references(self.replay.entries())
     }
 
     /// The greatest number of live texts in one bucket of a row of 2^level, or 0 where no text is
@@ -182,7 +158,7 @@ impl Plain {
         requires level { level ≤ 20 }
         ensures longest { result ≡ longest_bucket level (live_texts self.now.texts) }
     {
-        longest(level, &self.entries)
+        longest(level, self.replay.entries())
     }
 }
 

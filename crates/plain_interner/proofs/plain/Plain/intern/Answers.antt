@@ -1,38 +1,40 @@
-use Rattle.std.proofs.Common.{refl, sym, ap, ◌∙◌, arith}
-use Rattle.plain_interner.specs.View.{text_map}
-use Rattle.plain_interner.proofs.Events.{Follows-created, raised_same, raised_counted}
-use Rattle.plain_interner.proofs.Kept.{IsKept-created, IsKept-counted, IsKept-failed, free_slot}
+use Rattle.std.proofs.Common.{refl, sym, ap, ◌∙◌, arith, add-zero}
+use Rattle.intern_log.specs.declared.event.What.TheVariants.{Take}
+use Rattle.plain_interner.proofs.GivenOut.{IsGivenOut-created, IsGivenOut-kept, new_slot}
 use Rattle.plain_interner.proofs.plain.Plain.intern.Goals as goal
 
-pub add_both-requires : goal.add_both-requires
-add_both-requires c = free_slot _ _ c.self.inside.texts.entries c.self.inside.created c.self.invariant
-
--- want of memory
-pub invariant_of-self : goal.invariant_of-self
-invariant_of-self c =
-    let told = c.in_err-add_both.ensures in
-    IsKept-failed _ _ _ _ c.self.inside.texts.entries _ c.self.inside.created c.self.invariant told.err (omega (arith, told.len)) told.free told.others
+pub create-requires : goal.create-requires
+create-requires c =
+    let inside = c.self.inside in
+    record { allowed = (sym c.entry.ensures.entry ∙ c.in_default.is, new_slot inside.replay inside.created (record { slot = inside.created; generation = 0 }) c.self.invariant refl) }
 
 -- a new entry
 pub invariant_of-self-in_default : goal.invariant_of-self-in_default
 invariant_of-self-in_default c =
     let inside = c.self.inside in
-    let told = c.in_ok-add_both.ensures in
-    IsKept-created (text_map inside.entries.entries) _ _ _ inside.texts.entries _ inside.created c.args.text.now (record { slot = inside.created; generation = 0 })
-    c.self.invariant (omega (arith, ap (λ s. s.created) c.self.view_is, c.requires.room)) (sym c.entry_at.ensures ∙ c.in_default.is) refl told.ok told.len told.slot told.others
+    IsGivenOut-created inside.replay _ inside.created c.args.text.now (record { slot = inside.created; generation = 0 }) c.self.invariant
+    (omega (arith, ap (λ s. s.created) c.self.view_is, c.requires.room)) refl c.in_ok-create.ensures.ok
 
 pub returns-in_default-clause-follows : goal.returns-in_default-clause-follows
 returns-in_default-clause-follows c =
     let inside = c.self.inside in
-    rw (← c.self.view_is) (Follows-created (text_map inside.entries.entries) _ inside.texts.entries inside.created c.args.text.now (record { slot = inside.created; generation = 0 }) inside.kind _
-    c.self.invariant (sym c.entry_at.ensures ∙ c.in_default.is) refl c.in_ok-add_both.ensures.ok)
+    rw (← c.self.view_is) (record {
+      allowed = (sym c.entry.ensures.entry ∙ c.in_default.is, new_slot inside.replay inside.created (record { slot = inside.created; generation = 0 }) c.self.invariant refl);
+      texts = c.in_ok-create.ensures.ok;
+      kind = refl;
+      created = refl;
+    })
 
 -- one more hold
 pub invariant_of-self-in-Counted : goal.invariant_of-self-in-Counted
 invariant_of-self-in-Counted c =
-    let inside = c.self.inside in
-    let there = sym c.entry_at.ensures ∙ c.in-Some.is in
-    let same = ap (λ e. e.handle) c.raised.ensures ∙ raised_same c.in-Some.entry in
-    let known = c.self.invariant.known c.args.text.now c.in-Some.entry there in
-    IsKept-counted (text_map inside.entries.entries) _ _ _ inside.texts.entries inside.created c.args.text.now c.in-Some.entry c.raised.result
-    c.self.invariant there same (omega (arith, ap (λ e. e.count) c.raised.ensures, raised_counted c.in-Some.entry)) c.set_entry.ensures.texts c.set_entry.ensures.len
+    IsGivenOut-kept c.self.inside.replay _ c.self.inside.created (Take c.args.text.now c.in-Some.entry.handle) c.self.invariant refl (λ t h no. absurd (cc)) (c.take.ensures.taken c.in-Some.entry.handle)
+
+pub returns-in-Counted-clause-follows : goal.returns-in-Counted-clause-follows
+returns-in-Counted-clause-follows c =
+    rw (← c.self.view_is) (record {
+      allowed = (c.in-Some.entry, sym c.entry.ensures.entry ∙ c.in-Some.is, refl);
+      texts = c.take.ensures.taken c.in-Some.entry.handle;
+      kind = refl;
+      created = sym (add-zero c.self.inside.created);
+    })

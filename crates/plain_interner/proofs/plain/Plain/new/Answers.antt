@@ -1,10 +1,5 @@
-use Rattle.std.proofs.Common.{Global, refl}
-use Rattle.plain_interner.proofs.Maps.{text_map-nil}
-use Rattle.plain_interner.proofs.Kept.{IsKept-empty}
+use Rattle.plain_interner.proofs.GivenOut.{IsGivenOut-none}
 use Rattle.plain_interner.proofs.plain.Plain.new.Goals as goal
 
 pub invariant_of-result : goal.invariant_of-result
-invariant_of-result c = rw (c.new.ensures.empty, c.new-2.ensures.empty) (IsKept-empty Global)
-
-pub returns : goal.returns
-returns c = rw c.new.ensures.empty (rw (text_map-nil Global) (record { empty = refl }))
+invariant_of-result c = rw c.new.ensures.empty IsGivenOut-none

@@ -2,7 +2,7 @@ use Rattle.std.proofs.Common.{◌≡◌, ◌+◌, ◌==◌, Bool, cond, List, ma
 use Rattle.std.proofs.lemmas.List.Folds.{fold-map}
 use Rattle.std.specs.BTreeMap.{keys}
 use Rattle.intern_log.specs.Buckets.{bucket_of}
-use Rattle.plain_interner.proofs.fields.sharing.Goals as goal
+use Rattle.plain_interner.proofs.numbers.sharing.Goals as goal
 
 count_by-map : {A B : Type 0} (p : B → Bool) (h : A → B) (xs : List A) → count_by p (map h xs) ≡ count_by (λ x. p (h x)) xs
 count_by-map p h xs = fold-map (λ a x. a + cond (p x) 1 0) h 0 xs

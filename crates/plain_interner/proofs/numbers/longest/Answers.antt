@@ -3,8 +3,8 @@ use Rattle.std.proofs.lemmas.List.Folds.{fold-map}
 use Rattle.std.proofs.lemmas.Iterator.Consumers.{YieldsList-from_rest, fold_from_yields_List}
 use Rattle.std.specs.BTreeMap.{keys}
 use Rattle.intern_log.specs.Buckets.{bucket_of, in_bucket, longest_bucket}
-use Rattle.plain_interner.proofs.Maps.{live_texts-text_map}
-use Rattle.plain_interner.proofs.fields.longest.Goals as goal
+use Rattle.intern_log.proofs.Maps.{live_texts-text_map}
+use Rattle.plain_interner.proofs.numbers.longest.Goals as goal
 
 pub returns : goal.returns
 returns c =
