@@ -9,7 +9,7 @@ use Rattle.intern_log.specs.TextMap.{TextMap, no_texts}
 use Rattle.intern_log.specs.Log.{next, Allows, map_of, IsLegal}
 use Rattle.intern_log.specs.Own.{is_visible}
 use Rattle.intern_log.specs.Faults.{IsFirstFault, IsNotAllowedAt}
-use Rattle.intern_log.proofs.Logs.{map_after-append, IsLegalFrom-rest, IsLegal-push}
+use Rattle.intern_log.proofs.Logs.{map_after-append, IsLegal-one_more}
 
 -- an event that the map does not allow is visible
 visible : (m : TextMap) (what : What) → (¬ (Allows m what)) → is_visible what ≡ true
@@ -43,14 +43,14 @@ module _ (log : List Event) (i : ℕ) (e : Event) (inside : i < length log) (is 
   before = length-take-le i log (omega arith)
 
   pub IsFirstFault-at : IsLegal (take i log) → (¬ (Allows (map_of (take i log)) e.what)) → IsFirstFault IsLegal log i
-  IsFirstFault-at legal not = (take i log, drop (suc i) log, e, around, before, legal, λ all. not (IsLegalFrom-rest no_texts (take i log) (e ∷ []) all).0)
+  IsFirstFault-at legal not = (take i log, drop (suc i) log, e, around, before, legal, λ all. not ((IsLegal-one_more (take i log) e).0 all).1)
 
   pub IsNotAllowedAt-at : (¬ (Allows (map_of (take i log)) e.what)) → IsNotAllowedAt log i
   IsNotAllowedAt-at not = (take i log, drop (suc i) log, e, around, before, visible (map_of (take i log)) e.what not, not)
 
   -- one more event that is allowed
-  pub map_of-one_more : map_of (take (i + 1) log) ≡ next (map_of (take i log)) e.what
-  map_of-one_more = ap map_of up_to ∙ map_after-append no_texts (take i log) (e ∷ [])
+  pub map_of-up_to : map_of (take (i + 1) log) ≡ next (map_of (take i log)) e.what
+  map_of-up_to = ap map_of up_to ∙ map_after-append no_texts (take i log) (e ∷ [])
 
-  pub IsLegal-one_more : IsLegal (take i log) → Allows (map_of (take i log)) e.what → IsLegal (take (i + 1) log)
-  IsLegal-one_more legal allowed = subst IsLegal (sym up_to) (IsLegal-push (take i log) e legal allowed)
+  pub IsLegal-up_to : IsLegal (take i log) → Allows (map_of (take i log)) e.what → IsLegal (take (i + 1) log)
+  IsLegal-up_to legal allowed = subst IsLegal (sym up_to) ((IsLegal-one_more (take i log) e).1 (legal, allowed))

@@ -161,9 +161,9 @@ module _ {Z : Type 0} where
     found_counted None kept found = tt
     found_counted (Some x) kept found = kept.counted (text x) (entry x) found.1
 
-    pub none_live : (r : Option R) → IsKept m texts → IfNone r Misses → IfNone r (¬ (IsLive m h))
-    none_live None kept none = missed m texts h kept none
-    none_live (Some x) kept none = tt
+    pub found_none : (r : Option R) → IsKept m texts → IfNone r Misses → IfNone r (¬ (IsLive m h))
+    found_none None kept none = missed m texts h kept none
+    found_none (Some x) kept none = tt
 
     pub is_live-answer : (r : Option R) → IsKept m texts → IfSome r Leads → IfNone r Misses → IsTrue (is_some r) ↔ IsLive m h
     is_live-answer None kept found none = (λ yes. absurd (cc), λ live. absurd (missed m texts h kept none live))

@@ -35,9 +35,9 @@ bytes_eq_symm : (q t : List ℕ) → bytes_eq q t ≡ bytes_eq t q
 bytes_eq_symm q t = sym (is_eq-slice_cmp q t) ∙ (eq_by_cmp_equiv nat_list_cmp_total).symm q t ∙ is_eq-slice_cmp t q
 
 -- whether two texts are one, and what follows
-cases_text : {W : Type 0} (f g : List ℕ → W) (t : List ℕ) (w : W) (q : List ℕ) (b : Bool) → Decides b (q ≡ t) → g t ≡ w → (b ≡ false → g q ≡ f q) → g q ≡ cond b w (f q)
-cases_text f g t w q true decided here other = ap g (decided.0 refl) ∙ here
-cases_text f g t w q false decided here other = other refl
+at_text : {W : Type 0} (f g : List ℕ → W) (t : List ℕ) (w : W) (q : List ℕ) (b : Bool) → Decides b (q ≡ t) → g t ≡ w → (b ≡ false → g q ≡ f q) → g q ≡ cond b w (f q)
+at_text f g t w q true decided here other = ap g (decided.0 refl) ∙ here
+at_text f g t w q false decided here other = other refl
 
 -- the order of handles
 abbrev pub handle_cmp : Handle → Handle → Ordering
@@ -90,7 +90,7 @@ module _ {Z : Type 0} where
   pub text_map-updated : (m n : BTreeMap (Vec ℕ Z) Entry) (t : List ℕ) (o : Option Entry) → UpdatesBy vec_cmp (bytes_cmp t) m n o → text_map n.entries ≡ put_at (text_map m.entries) t o
   text_map-updated m n t o updates = same_entries _ _ (λ q.
       entry_of-text_map n.entries q
-      ∙ cases_text (λ x. lookup (is_at (bytes_cmp x)) m.entries) (λ x. lookup (is_at (bytes_cmp x)) n.entries) t o q (bytes_eq q t) (bytes_eq-Decides q t) updates.1
+      ∙ at_text (λ x. lookup (is_at (bytes_cmp x)) m.entries) (λ x. lookup (is_at (bytes_cmp x)) n.entries) t o q (bytes_eq q t) (bytes_eq-Decides q t) updates.1
       (λ differ. other_entry _ _ _ _ updates.3 (is_at (bytes_cmp q)) (λ x y. (eq_by_cmp_equiv nat_list_cmp_total).congr q x.items y.items) (λ k. apart t q k.items differ))
       ∙ sym (entry_of-put_at (text_map m.entries) t o q ∙ ap (cond (bytes_eq q t) o) (entry_of-text_map m.entries q)))
 

@@ -5,6 +5,9 @@
 //! the types of an event, and the definitions by which a log is read: the map from texts to entries
 //! that it stands for, which events that map allows, and which events are a caller's own. They know
 //! nothing of buckets, chains or words.
+//!
+//! A [`Replay`] is that map in code: it tells whether the map allows an event, and goes on by one that
+//! is allowed. [`first_fault`] finds the first event of a list that the map before it does not allow.
 #![tactic(auto)]
 
 pub mod event;

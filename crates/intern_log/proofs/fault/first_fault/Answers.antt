@@ -1,6 +1,6 @@
 use Rattle.std.proofs.Common.{sym, ap, subst, ◌∙◌}
 use Rattle.intern_log.specs.Log.{next, Allows}
-use Rattle.intern_log.proofs.FaultLaws.{IsFirstFault-at, IsNotAllowedAt-at, map_of-one_more, IsLegal-one_more}
+use Rattle.intern_log.proofs.FaultLaws.{IsFirstFault-at, IsNotAllowedAt-at, map_of-up_to, IsLegal-up_to}
 use Rattle.intern_log.proofs.fault.first_fault.Goals as goal
 
 pub returns-then-not-allows-clause-first : goal.returns-then-not-allows-clause-first
@@ -22,6 +22,6 @@ loop-place-preserved c =
     let i = c.loop-place.place in
     let allowed = subst (λ m. Allows m e.what) c.loop-place.invariant.texts (c.allows.ensures.allows.0 c.if-not-allows.false) in
     record {
-      texts = c.in_ok-apply.ensures.ok ∙ ap (λ m. next m e.what) c.loop-place.invariant.texts ∙ sym (map_of-one_more log i e c.loop-place-test.true c.index-events-place.is);
-      legal = IsLegal-one_more log i e c.loop-place-test.true c.index-events-place.is c.loop-place.invariant.legal allowed;
+      texts = c.in_ok-apply.ensures.ok ∙ ap (λ m. next m e.what) c.loop-place.invariant.texts ∙ sym (map_of-up_to log i e c.loop-place-test.true c.index-events-place.is);
+      legal = IsLegal-up_to log i e c.loop-place-test.true c.index-events-place.is c.loop-place.invariant.legal allowed;
     }
