@@ -11,3 +11,4 @@ pub mod Lawful
 pub mod Sections
 pub mod Orderly
 pub mod Ledger
+pub mod Faults
