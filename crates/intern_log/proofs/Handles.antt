@@ -126,7 +126,7 @@ both_hold false y is = absurd (not_so is)
     not_so : false ≡ true → ⊥
     not_so equal = cc
 
-same_as_itself : (a : Handle) → handle_eq a a ≡ true
+pub same_as_itself : (a : Handle) → handle_eq a a ≡ true
 same_as_itself a =
     let slots = (Decides-eqb a.slot a.slot).1 refl in
     let generations = (Decides-eqb a.generation a.generation).1 refl in

@@ -9,3 +9,6 @@ pub mod Graced
 pub mod Careful
 pub mod OrderlyLaws
 pub mod Ledger
+pub mod Maps
+pub mod Changes
+pub mod Kept

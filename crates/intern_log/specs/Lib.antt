@@ -11,4 +11,5 @@ pub mod Lawful
 pub mod Sections
 pub mod Orderly
 pub mod Ledger
+pub mod Kept
 pub mod Faults

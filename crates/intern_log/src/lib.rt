@@ -8,9 +8,12 @@
 #![tactic(auto)]
 
 pub mod event;
+mod fields;
 pub mod lawful_logs;
 pub mod laws;
+pub mod replay;
 pub mod text;
 
 pub use event::{Entry, Event, Handle, Kind, PERMANENT, Released, TableKind, What};
+pub use replay::Replay;
 pub use text::{MAX_TEXT, Text, TextFault};
