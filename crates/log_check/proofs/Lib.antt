@@ -1,3 +1,4 @@
 pub mod PartLaws
 pub mod Left
 pub mod Answered
+pub mod Longer

@@ -1,8 +1,11 @@
 -- What the code reads from the events of a log: one part of what the log says at its end, event by event.
-use Rattle.std.specs.Prelude.{List, ◌+◌, ◌≤◌, ◌⊎◌, ℕ, ◌≡◌, ◌&&◌, Bool, false, if◌then◌else◌, nat_eq, Option, Some, None}
+use Rattle.std.specs.Prelude.{List, ◌+◌, ◌≤◌, ◌⊎◌, ℕ, ◌≡◌, true, ◌&&◌, Bool, false, if◌then◌else◌, nat_eq, Option, Some, None}
 use Rattle.intern_log.specs.declared.event.Event.{Event}
 use Rattle.intern_log.specs.declared.event.What.{What}
 use Rattle.intern_log.specs.declared.event.What.TheVariants.{Create, Claim, Free, Open, Close, Lock, Unlock, Unlink, ResizeTaken, ResizeGiven, Level}
+use Rattle.std.specs.List.{list_any}
+use Rattle.intern_log.specs.Log.{creates}
+use Rattle.intern_log.specs.declared.event.Handle.{Handle}
 use Rattle.intern_log.specs.declared.event.TableKind.{TableKind}
 use Rattle.intern_log.specs.Lawful.{MayFollow}
 use Rattle.intern_log.specs.Now.{Phase, Now, now_of}
@@ -84,3 +87,7 @@ MayStand table before seat what = MayFollow table (now_of table.min_level before
 -- a level is one above or below another, and within the bounds of the table
 abbrev pub IsNextLevel : TableKind → ℕ → ℕ → Type 0
 IsNextLevel table now level = ((level ≡ now + 1) ⊎ (now ≡ level + 1)) × (table.min_level ≤ level) × (level ≤ table.max_level)
+
+-- the event creates a handle that one of these events has created
+abbrev pub IsRepeated : List Event → Event → Type 0
+IsRepeated before e = (h : Handle) × (creates e.what h ≡ true) × (list_any (λ (x : Event). creates x.what h) before ≡ true)

@@ -12,5 +12,8 @@
 //! That counts in a counted table are what its callers hold is not asked: it is a law of lawful logs.
 #![tactic(auto)]
 
+pub mod check;
 mod follow;
 mod past;
+
+pub use check::first_unlawful;
