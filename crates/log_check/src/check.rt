@@ -39,3 +39,6 @@ pub fn first_unlawful(
     }
     Ok(None)
 }
+
+#[cfg(test)]
+mod tests;
