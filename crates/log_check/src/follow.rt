@@ -47,8 +47,8 @@ fn may_free(before: &[Event], seat: u32, slot: u32) -> bool
     }
 }
 
-/// Whether a seat may open a section with this counter: it has none, and the grace counter is no
-/// less than that.
+/// Whether a seat may open a section with this counter: it has none open, and the grace counter was
+/// raised that far.
 fn may_open(table: &TableKind, before: &[Event], seat: u32, counter: u64) -> bool
     ensures { IsTrue result ↔ MayStand table.now before.now seat (What.Open counter) }
 {

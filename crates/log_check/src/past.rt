@@ -1,5 +1,5 @@
 //! What the events so far leave of one slot, one seat, one bucket or the whole table.
-ghost use Rattle.std.specs.Prelude.{◌≡◌, ℕ, ◌↔◌, IsTrue, Option, Some, None};
+ghost use Rattle.std.specs.Prelude.{◌≡◌, ℕ, ◌↔◌, IsTrue};
 ghost use Rattle.std.specs.List.{list_any};
 ghost use Rattle.std.specs.Option.{option_map};
 ghost use Rattle.intern_log.specs.Log.{creates};
@@ -8,7 +8,7 @@ ghost use Rattle.intern_log.specs.Now.{now_of};
 ghost use Rattle.log_check.specs.Parts.{phase_seen, phase_step, section_step, lock_step, owner_step, slot_unlinked, is_left_by, HasUnlinked};
 ghost use Rattle.intern_log.specs.Orderly.{level_after_event};
 
-use intern_log::{Event, Handle, TableKind, What};
+use intern_log::{Event, Handle, What};
 
 /// Where a slot is, without the text that is linked there and the place of its Create.
 #[derive(Clone, Copy, Debug, PartialEq, Eq)]
@@ -173,7 +173,7 @@ pub(crate) fn is_graced_since(events: &[Event], place: usize) -> bool
     })
 }
 
-/// Whether an event is an Unlink by the seat, of a slot that the seat has unlinked and nobody freed.
+/// Whether an event is an Unlink of a slot that the seat has unlinked, and that is not freed yet.
 fn leaves_unlinked(events: &[Event], seat: u32, event: &Event) -> bool
     ensures { (min_level : ℕ) → result ≡ is_left_by seat (now_of min_level events.now).slot (slot_unlinked event.now.what) }
 {
