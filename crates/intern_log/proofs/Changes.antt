@@ -1,7 +1,7 @@
 -- What an event does to a map, as a change at one text.
-use Rattle.std.proofs.Common.{◌≡◌, ◌≢◌, ℕ, ◌-◌, ◌<◌, ◌≤◌, Bool, true, false, cond, List, Option, Some, None, refl, sym, ap, ◌∙◌, arith}
-use Rattle.std.proofs.lemmas.Bool.{false_from_ne_true}
-use Rattle.std.proofs.lemmas.Bool.Decides.{nat_tests}
+use Rattle.std.proofs.Common.{◌≡◌, ℕ, ◌-◌, ◌<◌, ◌≤◌, ◌==◌, nat_le, Bool, true, false, cond, List, Option, Some, None, refl, sym, ap, ◌∙◌, arith}
+use Rattle.std.proofs.lemmas.Bool.{false_from_ne_true, leb-false}
+use Rattle.std.proofs.lemmas.Bool.Decides.{nat_tests, Decides-eqb}
 use Rattle.std.specs.Bool.{Decides}
 use Rattle.std.specs.Str.{bytes_eq}
 use Rattle.std.proofs.lemmas.Slice.Eq.{bytes_eq-Decides}
@@ -40,18 +40,15 @@ put_same m t o there = same_entries _ _ (λ q. entry_of-put_at m t o q ∙ again
     again q true decided = sym (ap (entry_of m) (decided.0 refl) ∙ there)
     again q false decided = refl
 
-kept_lowered : (e : Entry) → e.count ≡ PERMANENT → lowered e ≡ Some e
-kept_lowered e full = grind (arith, nat_tests)
-
--- an entry with one more hold has a hold
+-- an entry with one more hold has a hold, and so has what one with a hold less leaves
 pub raised_counted : (e : Entry) → 1 ≤ (raised e).count
 raised_counted e = grind (arith, nat_tests)
 
-pub lowered_permanent : (m : TextMap) (t : List ℕ) (e : Entry) → entry_of m t ≡ Some e → e.count ≡ PERMANENT → m ≡ put_at m t (lowered e)
-lowered_permanent m t e there full = sym (ap (put_at m t) (kept_lowered e full) ∙ put_same m t (Some e) there)
-
-pub lowered_to : (e : Entry) (h : Handle) → e.handle ≡ h → e.count ≢ PERMANENT → 1 < e.count → Some (record { handle = h; count = e.count - 1 }) ≡ lowered e
-lowered_to e h is low more = rw (← is) (grind (arith, nat_tests))
-
-pub lowered_away : (e : Entry) → e.count ≤ 1 → None ≡ lowered e
-lowered_away e least = grind (arith, nat_tests)
+pub lowered_counted : (e f : Entry) → lowered e ≡ Some f → 1 ≤ f.count
+lowered_counted e f is = counted (e.count == PERMANENT) (Decides-eqb e.count PERMANENT).0 (nat_le e.count 1) (leb-false e.count 1) is
+  where
+    counted : (permanent : Bool) → (permanent ≡ true → e.count ≡ PERMANENT) → (last : Bool) → (last ≡ false → 1 < e.count)
+        → cond permanent (Some e) (cond last None (Some (record e { count = e.count - 1 }))) ≡ Some f → 1 ≤ f.count
+    counted true full last more is = let same : e ≡ f = cc in omega (arith, ap (λ (x : Entry). x.count) same, full refl)
+    counted false full true more is = absurd (cc)
+    counted false full false more is = let same : record e { count = e.count - 1 } ≡ f = cc in omega (arith, ap (λ (x : Entry). x.count) same, more refl)

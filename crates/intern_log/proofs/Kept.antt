@@ -137,30 +137,37 @@ module _ {Z : Type 0} where
   pub IsKept-differ : (m : TextMap) (texts : List (Handle × Vec ℕ Z)) → IsKept m texts → HandlesDiffer m
   IsKept-differ m texts kept t u h at_t at_u = same_Some _ _ (sym ((kept.tied t h).0 at_t) ∙ (kept.tied u h).0 at_u)
 
-  -- a handle that leads to no entry of its own is not live
-  pub missed : (m : TextMap) (texts : List (Handle × Vec ℕ Z)) (h : Handle) → IsKept m texts
-      → ((t : List ℕ) (e : Entry) → text_at texts h ≡ Some t → entry_of m t ≡ Some e → e.handle ≢ h) → ¬ (IsLive m h)
-  missed m texts h kept none live = none live.0 live.1.0 (live_text m texts h live kept) live.1.1 live.1.2
+  -- the entry of the text that a handle leads to has the handle
+  pub has_handle : (m : TextMap) (texts : List (Handle × Vec ℕ Z)) (h : Handle) (t : List ℕ) (e : Entry) → IsKept m texts → text_at texts h ≡ Some t → entry_of m t ≡ Some e → e.handle ≡ h
+  has_handle m texts h t e kept leads there = let has = (kept.tied t h).1 leads in ap (λ (x : Entry). x.handle) (same_Some _ _ (sym there ∙ has.1)) ∙ has.2
 
-  -- what a look-up by a handle found: an entry that has a hold, or that the handle is not live
+  -- a handle that leads to no entry is not live
+  pub missed : (m : TextMap) (texts : List (Handle × Vec ℕ Z)) (h : Handle) → IsKept m texts → ((t : List ℕ) → text_at texts h ≡ Some t → entry_of m t ≡ None) → ¬ (IsLive m h)
+  missed m texts h kept none live = none_is_some live.1.0 (sym (none live.0 (live_text m texts h live kept)) ∙ live.1.1)
+
+  -- what a look-up by a handle found: an entry with this handle, which has a hold, or that the handle is not live
   module _ {R : Type 0} (m : TextMap) (texts : List (Handle × Vec ℕ Z)) (h : Handle) (text : R → List ℕ) (entry : R → Entry) where
-    abbrev pub Found : R → Type 0
-    Found x = (text_at texts h ≡ Some (text x)) × (entry_of m (text x) ≡ Some (entry x)) × ((entry x).handle ≡ h)
+    abbrev Leads : R → Type 0
+    Leads x = (text_at texts h ≡ Some (text x)) × (entry_of m (text x) ≡ Some (entry x))
 
-    abbrev pub Missed : Type 0
-    Missed = (t : List ℕ) (e : Entry) → text_at texts h ≡ Some t → entry_of m t ≡ Some e → e.handle ≢ h
+    abbrev Misses : Type 0
+    Misses = (t : List ℕ) → text_at texts h ≡ Some t → entry_of m t ≡ None
 
-    pub found_counted : (r : Option R) → IsKept m texts → IfSome r Found → IfSome r (λ x. 1 ≤ (entry x).count)
+    pub found_entry : (r : Option R) → IsKept m texts → IfSome r Leads → IfSome r (λ x. (entry_of m (text x) ≡ Some (entry x)) × ((entry x).handle ≡ h))
+    found_entry None kept found = tt
+    found_entry (Some x) kept found = (found.1, has_handle m texts h (text x) (entry x) kept found.0 found.1)
+
+    pub found_counted : (r : Option R) → IsKept m texts → IfSome r Leads → IfSome r (λ x. 1 ≤ (entry x).count)
     found_counted None kept found = tt
     found_counted (Some x) kept found = kept.counted (text x) (entry x) found.1
 
-    pub none_live : (r : Option R) → IsKept m texts → IfNone r Missed → IfNone r (¬ (IsLive m h))
+    pub none_live : (r : Option R) → IsKept m texts → IfNone r Misses → IfNone r (¬ (IsLive m h))
     none_live None kept none = missed m texts h kept none
     none_live (Some x) kept none = tt
 
-    pub is_live-answer : (r : Option R) → IsKept m texts → IfSome r Found → IfNone r Missed → IsTrue (is_some r) ↔ IsLive m h
+    pub is_live-answer : (r : Option R) → IsKept m texts → IfSome r Leads → IfNone r Misses → IsTrue (is_some r) ↔ IsLive m h
     is_live-answer None kept found none = (λ yes. absurd (cc), λ live. absurd (missed m texts h kept none live))
-    is_live-answer (Some x) kept found none = (λ yes. (text x, (entry x, found.1, found.2)), λ live. refl)
+    is_live-answer (Some x) kept found none = (λ yes. (text x, (entry x, found.1, has_handle m texts h (text x) (entry x) kept found.0 found.1)), λ live. refl)
 
 -- the entry of a handle is one
 pub one_entry : (m : TextMap) (h : Handle) (t u : List ℕ) (e f : Entry) → HandlesDiffer m → entry_of m t ≡ Some e → e.handle ≡ h → entry_of m u ≡ Some f → f.handle ≡ h → e ≡ f

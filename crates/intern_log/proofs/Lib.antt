@@ -12,3 +12,4 @@ pub mod Ledger
 pub mod Maps
 pub mod Changes
 pub mod Kept
+pub mod FaultLaws

@@ -123,24 +123,20 @@ pub(crate) fn remove_both(entries: &mut Entries, texts: &mut Texts, handle: Hand
     }
 }
 
-/// The entry with this handle, and its text.
+/// The text of a handle, and its entry.
 pub(crate) fn live_entry<'a>(
     entries: &Entries,
     texts: &'a Texts,
     handle: Handle,
 ) -> Option<(&'a [u8], Entry)>
     ensures found { IfSome result (λ found. (text_at texts.now.entries handle ≡ Some found.0.now)
-        × (entry_of (text_map entries.now.entries) found.0.now ≡ Some found.1) × (found.1.handle ≡ handle)) }
-    ensures none { IfNone result ((text : List ℕ) (e : Entry) → text_at texts.now.entries handle ≡ Some text
-        → entry_of (text_map entries.now.entries) text ≡ Some e → e.handle ≢ handle) }
+        × (entry_of (text_map entries.now.entries) found.0.now ≡ Some found.1)) }
+    ensures none { IfNone result ((text : List ℕ) → text_at texts.now.entries handle ≡ Some text
+        → entry_of (text_map entries.now.entries) text ≡ None) }
 {
     let text = text_of(texts, handle)?;
     let entry = entry_at(entries, text)?;
-    if entry.handle == handle {
-        Some((text, entry))
-    } else {
-        None
-    }
+    Some((text, entry))
 }
 
 /// An entry with one more hold; a permanent one stays.
@@ -154,4 +150,20 @@ pub(crate) fn raised(entry: Entry) -> Entry
         handle: entry.handle,
         count: entry.count + 1,
     }
+}
+
+/// An entry with one hold less, or `None` where that was its last; a permanent one stays.
+pub(crate) fn lowered(entry: Entry) -> Option<Entry>
+    ensures { result ≡ log.lowered entry }
+{
+    if entry.count == PERMANENT {
+        return Some(entry);
+    }
+    if entry.count <= 1 {
+        return None;
+    }
+    Some(Entry {
+        handle: entry.handle,
+        count: entry.count - 1,
+    })
 }

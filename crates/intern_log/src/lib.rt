@@ -8,6 +8,7 @@
 #![tactic(auto)]
 
 pub mod event;
+pub mod fault;
 mod fields;
 pub mod lawful_logs;
 pub mod laws;
@@ -15,5 +16,6 @@ pub mod replay;
 pub mod text;
 
 pub use event::{Entry, Event, Handle, Kind, PERMANENT, Released, TableKind, What};
+pub use fault::first_fault;
 pub use replay::Replay;
 pub use text::{MAX_TEXT, Text, TextFault};

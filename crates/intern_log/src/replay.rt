@@ -8,7 +8,7 @@ ghost use Rattle.intern_log.specs.Kept.{text_map};
 
 use crate::event::{Entry, Handle, PERMANENT, What};
 use crate::fields::{
-    Entries, Texts, add_both, entry_at, live_entry, raised, remove_both, set_entry,
+    Entries, Texts, add_both, entry_at, live_entry, lowered, raised, remove_both, set_entry,
 };
 use std::alloc::{AllocError, Global};
 use std::collections::BTreeMap;
@@ -158,20 +158,12 @@ impl Replay {
         let Some((text, entry)) = live_entry(&self.entries, &self.texts, handle) else {
             unreachable!()
         };
-        let count = entry.count;
-        if count == PERMANENT {
-            return count;
-        }
-        if count > 1 {
-            let left = Entry {
-                handle,
-                count: count - 1,
-            };
-            set_entry(&mut self.entries, text, left);
-            return count;
-        }
-        remove_both(&mut self.entries, &mut self.texts, handle);
-        count
+        let Some(left) = lowered(entry) else {
+            remove_both(&mut self.entries, &mut self.texts, handle);
+            return entry.count;
+        };
+        set_entry(&mut self.entries, text, left);
+        entry.count
     }
 
     /// Makes the count of a live entry 65,535.

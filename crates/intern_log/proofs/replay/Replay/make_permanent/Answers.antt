@@ -3,7 +3,7 @@ use Rattle.intern_log.specs.TextMap.{IsLive}
 use Rattle.intern_log.specs.Log.{made_permanent}
 use Rattle.intern_log.specs.Kept.{text_map}
 use Rattle.intern_log.proofs.Changes.{put_at-is_alter}
-use Rattle.intern_log.proofs.Kept.{missed, IsKept-counted, IsKept-differ}
+use Rattle.intern_log.proofs.Kept.{has_handle, missed, IsKept-counted, IsKept-differ}
 use Rattle.intern_log.proofs.replay.Replay.make_permanent.Goals as goal
 
 pub unreachable-requires : goal.unreachable-requires
@@ -24,7 +24,8 @@ returns c =
     let t = c.in-Some.text.now in
     let e = c.in-Some.entry in
     let found = c.in-Some.ensures.found in
+    let has = has_handle (text_map c.self.inside.entries.entries) c.self.inside.texts.entries c.args.handle c.in-Some.text.now c.in-Some.entry c.self.invariant found.0 found.1 in
     record {
       permanent = rw (← c.self.view_is) (c.set_entry.ensures
-          ∙ put_at-is_alter (λ x. Some (made_permanent x)) m t e c.args.handle (IsKept-differ m c.self.inside.texts.entries c.self.invariant) found.1 found.2);
+          ∙ put_at-is_alter (λ x. Some (made_permanent x)) m t e c.args.handle (IsKept-differ m c.self.inside.texts.entries c.self.invariant) found.1 has);
     }
