@@ -1,0 +1,4 @@
+pub mod PartLaws
+pub mod Left
+pub mod Answered
+pub mod Longer
