@@ -9,3 +9,4 @@ pub mod Graced
 pub mod Careful
 pub mod OrderlyLaws
 pub mod Ledger
+pub mod Places

@@ -2,6 +2,7 @@ pub mod TextMap
 pub mod Log
 pub mod Own
 pub mod Counts
+pub mod Place
 pub mod Window
 pub mod Buckets
 pub mod Finals

@@ -11,6 +11,7 @@ pub mod event;
 pub mod lawful_logs;
 pub mod laws;
 pub mod text;
+pub mod window_laws;
 
 pub use event::{Entry, Event, Handle, Kind, PERMANENT, Released, TableKind, What};
 pub use text::{MAX_TEXT, Text, TextFault};
