@@ -10,3 +10,6 @@ pub mod Careful
 pub mod OrderlyLaws
 pub mod Ledger
 pub mod Places
+pub mod OneMore
+pub mod Stays
+pub mod Replacing

@@ -12,3 +12,4 @@ pub mod Lawful
 pub mod Sections
 pub mod Orderly
 pub mod Ledger
+pub mod Touches

@@ -8,8 +8,11 @@
 #![tactic(auto)]
 
 pub mod event;
+pub mod event_laws;
 pub mod lawful_logs;
 pub mod laws;
+pub mod resize_laws;
+pub mod stays_laws;
 pub mod text;
 pub mod window_laws;
 
