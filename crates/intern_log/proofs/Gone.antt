@@ -16,7 +16,7 @@ use Rattle.intern_log.proofs.Handles.{origin_in_map, handle_eq-Decides}
 abbrev pub is_created : Handle → List Event → Bool
 is_created h log = list_any (λ e. creates e.what h) log
 
-created_by : (what : What) (t : List ℕ) (h : Handle) → what ≡ Create t h → creates what h ≡ true
+pub created_by : (what : What) (t : List ℕ) (h : Handle) → what ≡ Create t h → creates what h ≡ true
 created_by what t h is = ap (λ w. creates w h) is ∙ (handle_eq-Decides h h).1 refl
 
 gone-next : (m : TextMap) (what : What) (h : Handle) → creates what h ≡ false → ¬ (IsLive m h) → ¬ (IsLive (next m what) h)

@@ -13,3 +13,5 @@ pub mod Places
 pub mod OneMore
 pub mod Stays
 pub mod Replacing
+pub mod CallerSums
+pub mod CallerHolds

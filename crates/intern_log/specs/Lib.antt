@@ -12,4 +12,5 @@ pub mod Lawful
 pub mod Sections
 pub mod Orderly
 pub mod Ledger
+pub mod Callers
 pub mod Touches
