@@ -15,3 +15,4 @@ pub mod Stays
 pub mod Replacing
 pub mod CallerSums
 pub mod CallerHolds
+pub mod SlotBucketLaws

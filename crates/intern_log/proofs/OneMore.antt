@@ -1,9 +1,9 @@
 -- Logs by one more event.
-use Rattle.std.proofs.Common.{◌≡◌, ℕ, ◌+◌, Bool, true, false, cond, ◌&&◌, List, [], ◌∷◌, ◌++◌, length, ◌↔◌, refl, sym, ◌∙◌}
+use Rattle.std.proofs.Common.{◌≡◌, ℕ, ◌+◌, ◌<◌, ◌^◌, Bool, true, false, cond, ◌&&◌, List, [], ◌∷◌, ◌++◌, length, ◌↔◌, refl, sym, ◌∙◌}
 use native.Mathlib.Omega.{arith}
 use Rattle.std.specs.List.{list_any}
 use Rattle.std.proofs.lemmas.List.Folds.{list_any-append}
-use Rattle.std.proofs.lemmas.List.Sums.{sum_by_push}
+use Rattle.std.proofs.lemmas.List.Sums.{sum_by_push, sum_by-append}
 use Rattle.intern_log.specs.declared.event.Handle.{Handle}
 use Rattle.intern_log.specs.declared.event.Event.{Event}
 use Rattle.intern_log.specs.declared.event.What.{What}
@@ -11,8 +11,9 @@ use Rattle.intern_log.specs.declared.event.TableKind.{TableKind}
 use Rattle.intern_log.specs.TextMap.{no_texts}
 use Rattle.intern_log.specs.Log.{next, map_of, creates, IsFresh}
 use Rattle.intern_log.specs.Own.{is_visible, is_among, mine}
-use Rattle.intern_log.specs.Counts.{events_in}
+use Rattle.intern_log.specs.Counts.{is_create, events_in}
 use Rattle.intern_log.specs.Now.{Now, opening, now_after_event, now_after, now_of}
+use Rattle.intern_log.specs.Short.{IsShort}
 use Rattle.intern_log.specs.Lawful.{IsNew, MayFollow, IsLawful}
 use Rattle.intern_log.proofs.Logs.{map_after-append, mine-append, IsFresh-prefix}
 use Rattle.intern_log.proofs.LawfulLaws.{now_after-append, IsAllowedFrom-append, IsAllowedFrom-rest, IsLawful-prefix}
@@ -85,3 +86,10 @@ IsLawful-one_more table log e = (
   )),
   (λ all. IsLawful-push table log e all.0 all.1 all.2),
 )
+
+-- what begins a short log is short, and one more event counts as one where it is a Create
+pub IsShort-prefix : (front rest : List Event) → IsShort (front ++ rest) → IsShort front
+IsShort-prefix front rest short = let sum = sum_by-append (λ (x : Event). cond (is_create x.what) 1 0) front rest in omega (arith, sum, short)
+
+pub IsShort-one_more : (log : List Event) (e : Event) → IsShort (log ++ e ∷ []) ↔ (events_in is_create log + cond (is_create e.what) 1 0 < 2 ^ 47)
+IsShort-one_more log e = let count = count-one_more is_create log e in ((λ short. omega (arith, count, short)), (λ few. omega (arith, count, few)))

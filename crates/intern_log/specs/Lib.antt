@@ -13,4 +13,6 @@ pub mod Sections
 pub mod Orderly
 pub mod Ledger
 pub mod Callers
+pub mod SlotBuckets
+pub mod Short
 pub mod Touches

@@ -1,6 +1,6 @@
 //! Laws by one more event: what a log says after one more event, by what it said before.
 //! Each function does nothing: its contract is the law.
-ghost use Rattle.std.specs.Prelude.{◌≡◌, ℕ, ◌+◌, ◌↔◌, true, false, ◌&&◌, if◌then◌else◌, List, [], ◌∷◌, ◌++◌, length};
+ghost use Rattle.std.specs.Prelude.{◌≡◌, ℕ, ◌+◌, ◌^◌, ◌<◌, ◌↔◌, true, false, ◌&&◌, if◌then◌else◌, List, [], ◌∷◌, ◌++◌, length};
 ghost use Rattle.std.specs.List.{list_any};
 ghost use Rattle.intern_log.specs.declared.event.Event.{Event};
 ghost use Rattle.intern_log.specs.declared.event.Handle.{Handle};
@@ -8,8 +8,9 @@ ghost use Rattle.intern_log.specs.declared.event.What.{What};
 ghost use Rattle.intern_log.specs.declared.event.TableKind.{TableKind};
 ghost use Rattle.intern_log.specs.Log.{next, map_of, creates, IsFresh};
 ghost use Rattle.intern_log.specs.Own.{is_visible, is_among, mine, is_gain, is_loss, gains, losses};
-ghost use Rattle.intern_log.specs.Counts.{events_in};
+ghost use Rattle.intern_log.specs.Counts.{is_create, events_in};
 ghost use Rattle.intern_log.specs.Now.{now_after_event, now_of};
+ghost use Rattle.intern_log.specs.Short.{IsShort};
 ghost use Rattle.intern_log.specs.Lawful.{IsNew, MayFollow, IsLawful};
 
 /// The map of a log by one more event.
@@ -54,6 +55,16 @@ pub fn lawfulness_of_one_more_event()
         IsLawful table (log ++ e ∷ []) ↔ (IsLawful table log × MayFollow table (now_of table.min_level log) e.seat e.what × IsNew log e.what) }
 {}
 
+/// What begins a short log is short.
+pub fn prefix_of_a_short_log()
+    ensures law { (front rest : List Event) → IsShort (front ++ rest) → IsShort front }
+{}
+
+/// A log stays short by one more event, unless that is a Create and the log has 2^47 - 1 of them.
+pub fn shortness_of_one_more_event()
+    ensures law { (log : List Event) (e : Event) → IsShort (log ++ e ∷ []) ↔ (events_in is_create log + (if is_create e.what then 1 else 0) < 2 ^ 47) }
+{}
+
 #[cfg(test)]
 mod tests {
     use super::*;
@@ -68,5 +79,7 @@ mod tests {
         losses_by_one_more_event();
         freshness_of_one_more_event();
         lawfulness_of_one_more_event();
+        prefix_of_a_short_log();
+        shortness_of_one_more_event();
     }
 }

@@ -7,6 +7,7 @@
 //! nothing of buckets, chains or words.
 #![tactic(auto)]
 
+pub mod bucket_laws;
 pub mod caller_laws;
 pub mod event;
 pub mod event_laws;
