@@ -13,11 +13,13 @@ use Rattle.intern_log.specs.TextMap.{TextMap, no_texts, HasHandle}
 use Rattle.intern_log.specs.Log.{next, Allows, creates, map_after, map_of, IsFresh}
 use Rattle.intern_log.specs.Own.{is_visible, is_among, mine, gains, losses}
 use Rattle.intern_log.specs.Lawful.{IsLawful}
-use Rattle.intern_log.specs.Sections.{with_event}
-use Rattle.intern_log.specs.Callers.{AreCallers, DropTheirOwn, IsHeldBySome}
+use Rattle.intern_log.specs.Place.{IsLiveThroughout}
+use Rattle.intern_log.specs.Sections.{with_event, IsCreatedAs}
+use Rattle.intern_log.specs.Callers.{AreCallers, DropTheirOwn, IsHeldBySome, IsHeldThroughout}
 use Rattle.intern_log.proofs.Handles.{same_entry, origin_in_map, created_text, no_text_has}
 use Rattle.intern_log.proofs.Ledger.{held_is_live}
 use Rattle.intern_log.proofs.Gone.{is_created, created_by}
+use Rattle.intern_log.proofs.LawfulLaws.{IsLawful-prefix}
 use Rattle.intern_log.proofs.CallerSums.{sum_by-lt, shared_gains, shared_losses}
 
 -- one text has one handle
@@ -53,9 +55,6 @@ AreCallers-one_more callers log e = (
         (All-cons (IsShared callers) x xs (All-head (IsShared callers) x (xs ++ e ∷ []) shared) rest.0, rest.1)
 
 -- a text that is live with a handle was, or one of the events created it so
-abbrev IsCreatedAs : List Event → List ℕ → Handle → Type 0
-IsCreatedAs log t h = (front back : List Event) × (seat : ℕ) × (log ≡ with_event front seat (Create t h) back)
-
 live_was_created : (m : TextMap) (log : List Event) (t : List ℕ) (h : Handle) → HasHandle (map_after m log) t h → HasHandle m t h ⊎ IsCreatedAs log t h
 live_was_created m [] t h has = inl has
 live_was_created m (e ∷ log) t h has = elim (live_was_created (next m e.what) log t h has) [
@@ -104,3 +103,24 @@ created_text_is log front back seat created text h fresh is has = elim (live_was
       one_create made.0 made.1 front back (record { seat = made.2; what = Create text h }) (record { seat = seat; what = Create created h }) text created h refl refl
       (subst IsFresh made.3 fresh) (sym made.3 ∙ is)
 ]
+
+-- callers share what begins a log that they share
+AreCallers-prefix : (callers : List (List ℕ)) (front rest : List Event) → AreCallers callers (front ++ rest) → AreCallers callers front
+AreCallers-prefix callers [] rest shared = All-nil (IsShared callers)
+AreCallers-prefix callers (x ∷ front) rest shared =
+    All-cons (IsShared callers) x front (All-head (IsShared callers) x (front ++ rest) shared)
+    (AreCallers-prefix callers front rest (All-tail (IsShared callers) x (front ++ rest) shared))
+
+-- a text that callers hold at each place of a window is live there
+pub held_is_live_throughout : (table : TableKind) (callers : List (List ℕ)) (before after : List Event) (text : List ℕ) →
+    table.kind ≡ Counted → IsLawful table after → AreCallers callers after → IsHeldThroughout callers before after text → IsLiveThroughout before after text
+held_is_live_throughout table callers before after text counted lawful shared holds done place =
+    let at = holds done place in
+    let rest = place.1.0 in
+    let whole = place.1.1 in
+    let lawful_here = IsLawful-prefix table done rest (subst (IsLawful table) whole lawful) in
+    let shared_here = AreCallers-prefix callers done rest (subst (AreCallers callers) whole shared) in
+    let live = held_by_caller table callers done at.0 counted lawful_here shared_here at.2 at.3 in
+    let created = at.1 in
+    let same = created_text_is done created.0 created.1 created.2 text live.0 at.0 lawful_here.fresh created.3 live.1 in
+    (at.0, subst (λ t. HasHandle (map_of done) t at.0) same live.1)

@@ -12,7 +12,8 @@ ghost use Rattle.intern_log.specs.Log.{map_of, Allows, IsFresh};
 ghost use Rattle.intern_log.specs.Own.{is_visible, is_among, mine, gains, losses};
 ghost use Rattle.intern_log.specs.Lawful.{IsLawful};
 ghost use Rattle.intern_log.specs.Sections.{with_event};
-ghost use Rattle.intern_log.specs.Callers.{AreCallers, DropTheirOwn, IsHeldBySome};
+ghost use Rattle.intern_log.specs.Callers.{AreCallers, DropTheirOwn, IsHeldBySome, IsHeldThroughout};
+ghost use Rattle.intern_log.specs.Place.{IsLiveThroughout};
 
 /// Callers share a log by one more event where they share it before, and that event is by one of them or unseen.
 pub fn callers_by_one_more_event()
@@ -46,6 +47,13 @@ pub fn text_of_a_live_handle()
         log ≡ with_event front seat (Create created h) back → HasHandle (map_of log) text h → text ≡ created }
 {}
 
+/// In a lawful Counted log a text of which callers hold a handle at each place of a window is live at each place, so it
+/// is not missing in the window.
+pub fn texts_held_throughout_are_live()
+    ensures law { (table : TableKind) (callers : List (List ℕ)) (before after : List Event) (text : List ℕ) →
+        table.kind ≡ Counted → IsLawful table after → AreCallers callers after → IsHeldThroughout callers before after text → IsLiveThroughout before after text }
+{}
+
 #[cfg(test)]
 mod tests {
     use super::*;
@@ -57,5 +65,6 @@ mod tests {
         losses_of_the_callers();
         handles_of_callers_are_live();
         text_of_a_live_handle();
+        texts_held_throughout_are_live();
     }
 }
