@@ -16,3 +16,4 @@ pub mod Replacing
 pub mod CallerSums
 pub mod CallerHolds
 pub mod SlotBucketLaws
+pub mod WorkedLogLaws

@@ -15,4 +15,5 @@ pub mod Ledger
 pub mod Callers
 pub mod SlotBuckets
 pub mod Short
+pub mod WorkedLog
 pub mod Touches

@@ -17,6 +17,7 @@ pub mod resize_laws;
 pub mod stays_laws;
 pub mod text;
 pub mod window_laws;
+pub mod worked_log;
 
 pub use event::{Entry, Event, Handle, Kind, PERMANENT, Released, TableKind, What};
 pub use text::{MAX_TEXT, Text, TextFault};
