@@ -38,7 +38,7 @@ linked_was_created table done (e ∷ rest) now s t h p allowed tie is =
     subst (λ l. IsLinkedAs l s t h) (append_assoc done (e ∷ []) rest) (linked_was_created table (done ++ e ∷ []) rest (now_after_event now e) s t h p allowed.1 more is)
 
 -- a slot that may be unlinked has a text and a handle that is gone
-linked_dead : (now : Now) (phase : Phase) → IsLinkedDead now phase → (t : List ℕ) × (h : Handle) × (p : ℕ) × (phase ≡ Linked t h p) × ¬ (IsLive now.texts h)
+pub linked_dead : (now : Now) (phase : Phase) → IsLinkedDead now phase → (t : List ℕ) × (h : Handle) × (p : ℕ) × (phase ≡ Linked t h p) × ¬ (IsLive now.texts h)
 linked_dead now (Linked t h p) dead = (t, h, p, refl, dead)
 linked_dead now Vacant dead = absurd dead
 linked_dead now (Claimed i) dead = absurd dead

@@ -16,10 +16,10 @@ use Rattle.intern_log.proofs.Handles.{origin_in_map, handle_eq-Decides}
 abbrev pub is_created : Handle → List Event → Bool
 is_created h log = list_any (λ e. creates e.what h) log
 
-created_by : (what : What) (t : List ℕ) (h : Handle) → what ≡ Create t h → creates what h ≡ true
+pub created_by : (what : What) (t : List ℕ) (h : Handle) → what ≡ Create t h → creates what h ≡ true
 created_by what t h is = ap (λ w. creates w h) is ∙ (handle_eq-Decides h h).1 refl
 
-gone-next : (m : TextMap) (what : What) (h : Handle) → creates what h ≡ false → ¬ (IsLive m h) → ¬ (IsLive (next m what) h)
+pub gone-next : (m : TextMap) (what : What) (h : Handle) → creates what h ≡ false → ¬ (IsLive m h) → ¬ (IsLive (next m what) h)
 gone-next m what h other gone live =
     elim (origin_in_map m what live.0 h live.1) [
       | inl was ↦ gone (live.0, was)

@@ -86,7 +86,7 @@ origin_in_map m what t h has =
     ]
 
 -- the text of a Create
-created_text : (t u : List ℕ) (h k : Handle) → Create t h ≡ Create u k → t ≡ u
+pub created_text : (t u : List ℕ) (h k : Handle) → Create t h ≡ Create u k → t ≡ u
 created_text t u h k is = cc
 
 -- a handle that a Create may give is not live

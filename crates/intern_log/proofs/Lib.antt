@@ -14,3 +14,11 @@ pub mod Changes
 pub mod Kept
 pub mod FaultLaws
 pub mod Sizes
+pub mod Places
+pub mod OneMore
+pub mod Stays
+pub mod Replacing
+pub mod CallerSums
+pub mod CallerHolds
+pub mod SlotBucketLaws
+pub mod WorkedLogLaws

@@ -11,13 +11,13 @@ use Rattle.intern_log.specs.declared.event.Event.{Event}
 use Rattle.intern_log.specs.declared.event.What.{What}
 use Rattle.intern_log.specs.declared.event.What.TheVariants.{Create, Take, Found, Drop, Perm, Kill, Claim, Free, Open, Close, Grace, Lock, Unlock, Unlink, ResizeTaken, ResizeGiven, Level}
 use Rattle.intern_log.specs.Counts.{events_in}
-use Rattle.intern_log.specs.Now.{Unlinked, OpenSection, Resizing, Now, opening, changed_by, now_after_event, now_after, with_lock}
+use Rattle.intern_log.specs.Now.{Unlinked, OpenSection, Resizing, Now, owner_of, opening, changed_by, now_after_event, now_after, with_lock}
 use Rattle.intern_log.specs.declared.event.TableKind.{TableKind}
 use Rattle.intern_log.specs.Lawful.{MayFollow, IsResizing, IsAllowedFrom, IsLawful}
 use Rattle.intern_log.specs.Sections.{closes, some_frees, with_event, IsOpenIn}
 use Rattle.intern_log.specs.Orderly.{is_grace, is_resize_given, ends_lock, some_ends_lock, HasResizeLock, IsLockedBy, level_after_event, level_after, IsOrderly}
 use Rattle.intern_log.proofs.LawfulLaws.{IsAllowedFrom-prefix, IsAllowedFrom-rest}
-use Rattle.intern_log.proofs.Slots.{section_after, lock_after, owner_after, owner_of, unlinked_until_free, neither}
+use Rattle.intern_log.proofs.Slots.{section_after, lock_after, owner_after, unlinked_until_free, neither}
 use Rattle.intern_log.proofs.Graced.{or_false, otherwise, put_there, said, open_is}
 
 -- what each allowed event keeps, a list of them keeps
@@ -30,13 +30,13 @@ carried table P step done (e ∷ rest) now allowed holds =
     (carried table P step (done ++ e ∷ []) rest (now_after_event now e) allowed.1 (step done now e allowed.0 holds))
 
 -- one more event behind, that is not such an event
-pushed : (front back : List Event) (k : ℕ) (what : What) (e : Event) (log : List Event) → log ≡ with_event front k what back → log ++ e ∷ [] ≡ with_event front k what (back ++ e ∷ [])
+pub pushed : (front back : List Event) (k : ℕ) (what : What) (e : Event) (log : List Event) → log ≡ with_event front k what back → log ++ e ∷ [] ≡ with_event front k what (back ++ e ∷ [])
 pushed front back k what e log is = ap (λ l. l ++ e ∷ []) is ∙ append_assoc front _ (e ∷ [])
 
-still_none : (ends : Event → Bool) (back : List Event) (e : Event) → list_any ends back ≡ false → ends e ≡ false → list_any ends (back ++ e ∷ []) ≡ false
+pub still_none : (ends : Event → Bool) (back : List Event) (e : Event) → list_any ends back ≡ false → ends e ≡ false → list_any ends (back ++ e ∷ []) ≡ false
 still_none ends back e none other = list_any-append ends back (e ∷ []) ∙ or_false _ _ none (or_false _ false other refl)
 
-event_is : (e : Event) (k : ℕ) (what : What) → e.what ≡ what → e.seat ≡ k → (done : List Event) → done ++ e ∷ [] ≡ with_event done k what []
+pub event_is : (e : Event) (k : ℕ) (what : What) → e.what ≡ what → e.seat ≡ k → (done : List Event) → done ++ e ∷ [] ≡ with_event done k what []
 event_is e k what made at done = ap (λ w. done ++ record { seat = e.seat; what = w } ∷ []) made ∙ ap (λ n. done ++ record { seat = n; what = what } ∷ []) at
 
 one_seat : (a b : ℕ) → Some a ≡ Some b → a ≡ b
@@ -112,7 +112,7 @@ graces-event now seat ResizeTaken = omega arith
 graces-event now seat ResizeGiven = omega arith
 graces-event now seat (Level l) = omega arith
 
-level-event : (now : Now) (seat : ℕ) (what : What) → (changed_by now seat what).level ≡ level_after_event now.level what
+pub level-event : (now : Now) (seat : ℕ) (what : What) → (changed_by now seat what).level ≡ level_after_event now.level what
 level-event now seat (Create t h) = refl
 level-event now seat (Take t h) = refl
 level-event now seat (Found t h) = refl
@@ -140,7 +140,7 @@ graces_are now (e ∷ log) =
     let count = sum_by-cons (λ (x : Event). cond (is_grace x.what) 1 0) e log in
     omega (arith, more, one, count)
 
-level_is : (now : Now) (log : List Event) → (now_after now log).level ≡ level_after now.level log
+pub level_is : (now : Now) (log : List Event) → (now_after now log).level ≡ level_after now.level log
 level_is now [] = refl
 level_is now (e ∷ log) = level_is (now_after_event now e) log ∙ ap (λ l. level_after l log) (level-event now e.seat e.what)
 

@@ -2,13 +2,14 @@
 use Rattle.std.proofs.Common.{◌≡◌, ℕ, Bool, true, false, cond, List, [], ◌∷◌, ◌||◌, ◌&&◌, not, ◌<◌, ◌+◌, Option, Some, None, refl, sym, ap, subst, ◌∙◌}
 use native.Mathlib.Omega.{arith}
 use Rattle.std.specs.Prelude.{nat_eq}
+use Rattle.std.specs.Option.{option_map}
 use Rattle.std.proofs.lemmas.Bool.Decides.{Decides-eqb}
 use Rattle.intern_log.specs.declared.event.Handle.{Handle}
 use Rattle.intern_log.specs.declared.event.Event.{Event}
 use Rattle.intern_log.specs.declared.event.What.{What}
 use Rattle.intern_log.specs.declared.event.What.TheVariants.{Create, Take, Found, Drop, Perm, Kill, Claim, Free, Open, Close, Grace, Lock, Unlock, Unlink, ResizeTaken, ResizeGiven, Level}
 use Rattle.intern_log.proofs.Handles.{both_hold}
-use Rattle.intern_log.specs.Now.{Phase, Vacant, Claimed, Linked, Unlinked, OpenSection, Resizing, Now, opening, changed_by, now_after_event, now_after}
+use Rattle.intern_log.specs.Now.{Phase, Vacant, Claimed, Linked, Unlinked, OpenSection, Resizing, Now, owner_of, resizing_after_lock, opening, changed_by, now_after_event, now_after}
 use Rattle.intern_log.specs.declared.event.TableKind.{TableKind}
 use Rattle.intern_log.specs.Lawful.{IsLinkedDead, MayFree, MayFollow, IsAllowedFrom}
 use Rattle.intern_log.specs.Sections.{frees, unlinks, closes, some_frees, some_unlinks, some_closes}
@@ -113,10 +114,10 @@ lock_after P table now seat (Unlink x) row bucket may stays locked ended = stays
 lock_after P table now seat ResizeTaken row bucket may stays locked ended = stays refl
 lock_after P table now seat ResizeGiven row bucket may stays locked ended = stays refl
 
--- who has the resize lock
-abbrev pub owner_of : Option Resizing → Option ℕ
-owner_of None = None
-owner_of (Some r) = Some r.seat
+-- the owner after a Lock
+pub same_owner : (P : Option ℕ → Type 0) (seat row : ℕ) (resizing : Option Resizing) → P (owner_of resizing) → P (owner_of (option_map (resizing_after_lock seat row) resizing))
+same_owner P seat row None is = is
+same_owner P seat row (Some r) is = is
 
 -- the same of the resize lock
 pub owner_after : (P : Option ℕ → Type 0) (table : TableKind) (now : Now) (seat : ℕ) (what : What) → MayFollow table now seat what →
@@ -126,7 +127,7 @@ pub owner_after : (P : Option ℕ → Type 0) (table : TableKind) (now : Now) (s
     P (owner_of (changed_by now seat what).resizing)
 owner_after P table now seat ResizeTaken may stays taken given = taken refl may
 owner_after P table now seat ResizeGiven may stays taken given = given refl
-owner_after P table now seat (Lock r b) may stays taken given = stays refl
+owner_after P table now seat (Lock r b) may stays taken given = same_owner P seat r now.resizing (stays refl)
 owner_after P table now seat (Create t h) may stays taken given = stays refl
 owner_after P table now seat (Take t h) may stays taken given = stays refl
 owner_after P table now seat (Found t h) may stays taken given = stays refl

@@ -1,13 +1,14 @@
 -- Which events a log allows at its end, and which logs are lawful.
-use Rattle.std.specs.Prelude.{◌≡◌, ℕ, ◌+◌, ◌*◌, ◌<◌, ◌≤◌, ◌⊎◌, List, [], ◌∷◌, Some, None}
+use Rattle.std.specs.Prelude.{◌≡◌, ℕ, ◌+◌, ◌*◌, ◌<◌, ◌≤◌, ◌⊎◌, true, false, List, [], ◌∷◌, Some, None}
+use Rattle.std.specs.List.{list_any}
+use Rattle.intern_log.specs.declared.event.Handle.{Handle}
 use Rattle.intern_log.specs.declared.event.Event.{Event}
-use Rattle.intern_log.specs.declared.event.Kind.{Kind}
 use Rattle.intern_log.specs.declared.event.Kind.TheVariants.{Counted, Weak}
 use Rattle.intern_log.specs.declared.event.TableKind.{TableKind}
 use Rattle.intern_log.specs.declared.event.What.{What}
 use Rattle.intern_log.specs.declared.event.What.TheVariants.{Create, Take, Found, Drop, Perm, Kill, Claim, Free, Open, Close, Grace, Lock, Unlock, Unlink, ResizeTaken, ResizeGiven, Level}
 use Rattle.intern_log.specs.TextMap.{IsLive}
-use Rattle.intern_log.specs.Log.{Allows, IsFresh}
+use Rattle.intern_log.specs.Log.{Allows, creates, IsFresh}
 use Rattle.intern_log.specs.Now.{Phase, Vacant, Claimed, Linked, Unlinked, OpenSection, Resizing, Now, now_after_event, opening}
 
 -- the seat has the resize lock
@@ -54,6 +55,10 @@ MayFollow table now seat (Level level) = IsResizing now seat × ((level ≡ now.
 abbrev pub IsAllowedFrom : TableKind → Now → List Event → Type 0
 IsAllowedFrom table now [] = Unit {0}
 IsAllowedFrom table now (e ∷ es) = MayFollow table now e.seat e.what × IsAllowedFrom table (now_after_event now e) es
+
+-- the event creates no handle that the log has created
+abbrev pub IsNew : List Event → What → Type 0
+IsNew log what = (h : Handle) → creates what h ≡ true → list_any (λ (earlier : Event). creates earlier.what h) log ≡ false
 
 -- a lawful log: each event may follow what comes before it, and no handle is created twice
 pub record IsLawful (table : TableKind) (log : List Event) : Type 0 where

@@ -2,6 +2,7 @@ pub mod TextMap
 pub mod Log
 pub mod Own
 pub mod Counts
+pub mod Place
 pub mod Window
 pub mod Buckets
 pub mod Finals
@@ -13,3 +14,8 @@ pub mod Orderly
 pub mod Ledger
 pub mod Kept
 pub mod Faults
+pub mod Callers
+pub mod SlotBuckets
+pub mod Short
+pub mod WorkedLog
+pub mod Touches

@@ -1,5 +1,6 @@
 -- What a log stands for at its end: the map, the slots, the open sections, the locks, the level and the graces.
-use Rattle.std.specs.Prelude.{ℕ, ◌+◌, ◌&&◌, if◌then◌else◌, nat_eq, List, [], ◌∷◌, Option, Some, None}
+use Rattle.std.specs.Prelude.{ℕ, ◌+◌, Bool, false, not, ◌&&◌, ◌||◌, if◌then◌else◌, nat_eq, List, [], ◌∷◌, Option, Some, None}
+use Rattle.std.specs.Option.{option_map}
 use Rattle.intern_log.specs.declared.event.Handle.{Handle}
 use Rattle.intern_log.specs.declared.event.Event.{Event}
 use Rattle.intern_log.specs.declared.event.What.{What}
@@ -19,13 +20,14 @@ pub record OpenSection : Type 0 where
   pub place : ℕ
   pub counter : ℕ
 
--- who has the resize lock, since which place, and the level there
+-- who has the resize lock, since which place, the level there, and whether the seat has locked a bucket of another row since
 pub record Resizing : Type 0 where
   pub seat : ℕ
   pub place : ℕ
   pub level : ℕ
+  pub replacing : Bool
 
--- all of it, with the number of events so far
+-- all of it, with the number of events so far, and the place after the last Level
 pub record Now : Type 0 where
   pub place : ℕ
   pub texts : TextMap
@@ -34,7 +36,17 @@ pub record Now : Type 0 where
   pub lock : ℕ → ℕ → Option ℕ
   pub resizing : Option Resizing
   pub level : ℕ
+  pub since : ℕ
   pub graces : ℕ
+
+-- the seat that has the resize lock
+abbrev pub owner_of : Option Resizing → Option ℕ
+owner_of None = None
+owner_of (Some r) = Some r.seat
+
+-- the resizing after a Lock of a bucket of this row by this seat
+abbrev pub resizing_after_lock : ℕ → ℕ → Resizing → Resizing
+resizing_after_lock seat row r = record r { replacing = r.replacing || (nat_eq seat r.seat && not (nat_eq row r.level)) }
 
 -- a function with another value at one place
 abbrev pub with_at : {A : Type 0} → (ℕ → A) → ℕ → A → ℕ → A
@@ -57,6 +69,7 @@ opening min_level = record {
   lock = λ r b. None;
   resizing = None;
   level = min_level;
+  since = 0;
   graces = 0;
 }
 
@@ -69,11 +82,14 @@ changed_by now seat (Unlink s) = record now { slot = with_at now.slot s (Unlinke
 changed_by now seat (Open counter) = record now { section = with_at now.section seat (Some (record { place = now.place; counter = counter })) }
 changed_by now seat Close = record now { section = with_at now.section seat None }
 changed_by now seat Grace = record now { graces = now.graces + 1 }
-changed_by now seat (Lock row bucket) = record now { lock = with_lock now.lock row bucket (Some seat) }
+changed_by now seat (Lock row bucket) = record now {
+  lock = with_lock now.lock row bucket (Some seat);
+  resizing = option_map (resizing_after_lock seat row) now.resizing;
+}
 changed_by now seat (Unlock row bucket) = record now { lock = with_lock now.lock row bucket None }
-changed_by now seat ResizeTaken = record now { resizing = Some (record { seat = seat; place = now.place; level = now.level }) }
+changed_by now seat ResizeTaken = record now { resizing = Some (record { seat = seat; place = now.place; level = now.level; replacing = false }) }
 changed_by now seat ResizeGiven = record now { resizing = None }
-changed_by now seat (Level level) = record now { level = level; lock = locks_of_row now.lock level }
+changed_by now seat (Level level) = record now { level = level; since = now.place + 1; lock = locks_of_row now.lock level }
 changed_by now seat _ = now
 
 -- after one more event

@@ -44,6 +44,17 @@ abbrev pub level_after : ℕ → List Event → ℕ
 level_after level [] = level
 level_after level (e ∷ log) = level_after (level_after_event level e.what) log
 
+-- whether the event, by this seat, is one by the number: a Lock of a bucket of another row
+abbrev pub locks_other_row : ℕ → ℕ → ℕ → What → Bool
+locks_other_row k row seat (Lock r b) = nat_eq seat k && not (nat_eq r row)
+locks_other_row k row seat _ = false
+
+-- the row is being replaced: a number has the resize lock, the row's level is the one at which it was taken, and since then that number has locked a bucket of another row
+abbrev pub IsBeingReplaced : ℕ → List Event → ℕ → Type 0
+IsBeingReplaced min_level log row = (front back : List Event) × (k : ℕ)
+    × (log ≡ with_event front k ResizeTaken back) × (list_any (λ (e : Event). is_resize_given e.what) back ≡ false)
+    × (level_after min_level front ≡ row) × (list_any (λ (e : Event). locks_other_row k row e.seat e.what) back ≡ true)
+
 -- an orderly log
 pub record IsOrderly (table : TableKind) (log : List Event) : Type 0 where
   -- Opens and Closes of a number alternate, an Open first; an Open's counter is at most the first counter and twice the Graces before it

@@ -43,6 +43,10 @@ IsOpenIn log k = (front back : List Event) × (counter : ℕ) × (log ≡ with_e
 abbrev pub IsTakenIn : List Event → ℕ → Type 0
 IsTakenIn log s = (front back : List Event) × (seat : ℕ) × (log ≡ with_event front seat (Claim s) back) × (some_frees s back ≡ false)
 
+-- an entry was created with this text and handle
+abbrev pub IsCreatedAs : List Event → List ℕ → Handle → Type 0
+IsCreatedAs log text h = (front back : List Event) × (seat : ℕ) × (log ≡ with_event front seat (Create text h) back)
+
 -- an entry was created in the slot, with this text and handle, and the slot was not unlinked since
 abbrev pub IsLinkedAs : List Event → ℕ → List ℕ → Handle → Type 0
 IsLinkedAs log s text h = (front back : List Event) × (seat : ℕ) × (log ≡ with_event front seat (Create text h) back) × (h.slot ≡ s) × (some_unlinks s back ≡ false)

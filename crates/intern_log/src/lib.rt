@@ -10,13 +10,20 @@
 //! is allowed. [`first_fault`] finds the first event of a list that the map before it does not allow.
 #![tactic(auto)]
 
+pub mod bucket_laws;
+pub mod caller_laws;
 pub mod event;
+pub mod event_laws;
 pub mod fault;
 mod fields;
 pub mod lawful_logs;
 pub mod laws;
 pub mod replay;
+pub mod resize_laws;
+pub mod stays_laws;
 pub mod text;
+pub mod window_laws;
+pub mod worked_log;
 
 pub use event::{Entry, Event, Handle, Kind, PERMANENT, Released, TableKind, What};
 pub use fault::first_fault;

@@ -1,0 +1,55 @@
+//! Laws of buckets at a place of a log.
+//! Each function does nothing: its contract is the law.
+ghost use Rattle.std.specs.Prelude.{◌≡◌, ℕ, ◌<◌, ◌^◌, false, List, ◌∷◌, Some};
+ghost use Rattle.intern_log.specs.declared.event.Event.{Event};
+ghost use Rattle.intern_log.specs.declared.event.Handle.{Handle};
+ghost use Rattle.intern_log.specs.declared.event.TableKind.{TableKind};
+ghost use Rattle.intern_log.specs.declared.event.What.TheVariants.{Unlink};
+ghost use Rattle.intern_log.specs.Buckets.{bucket_of};
+ghost use Rattle.intern_log.specs.Lawful.{IsLawful};
+ghost use Rattle.intern_log.specs.Now.{Now, Linked, now_after_event, now_of};
+ghost use Rattle.intern_log.specs.Sections.{with_event, IsLinkedAs};
+ghost use Rattle.intern_log.specs.SlotBuckets.{bucket_now, slot_bucket, IsUnlinkOn};
+ghost use Rattle.intern_log.specs.Touches.{touches_slot};
+
+/// A bucket is one of its row.
+pub fn bucket_is_in_its_row()
+    ensures law { (now : Now) (row : ℕ) (text : List ℕ) → bucket_now now row text < 2 ^ row }
+{}
+
+/// The bucket of a text at a place is the one that the report counts it in.
+pub fn bucket_is_that_of_the_report()
+    ensures law { (now : Now) (row : ℕ) (text : List ℕ) → bucket_now now row text ≡ bucket_of row text }
+{}
+
+/// The bucket of a slot that is in a chain is that of its text.
+pub fn bucket_of_a_linked_slot()
+    ensures law { (now : Now) (row s : ℕ) (text : List ℕ) (h : Handle) (born : ℕ) → now.slot s ≡ Linked text h born →
+        slot_bucket now row s ≡ Some (bucket_now now row text) }
+{}
+
+/// An event that is no Create, Claim, Free or Unlink of a slot leaves its bucket.
+pub fn bucket_of_a_slot_stays()
+    ensures law { (now : Now) (e : Event) (row s : ℕ) → touches_slot s e.what ≡ false → slot_bucket (now_after_event now e) row s ≡ slot_bucket now row s }
+{}
+
+/// In a lawful log each Unlink is on the bucket of the text with which its slot was linked.
+pub fn unlinks_are_on_the_bucket_of_their_text()
+    ensures law { (table : TableKind) (log front back : List Event) (seat s row : ℕ) → IsLawful table log → log ≡ with_event front seat (Unlink s) back →
+        (text : List ℕ) × (h : Handle) × IsLinkedAs front s text h
+        × IsUnlinkOn (now_of table.min_level front) row (bucket_now (now_of table.min_level front) row text) (Unlink s) }
+{}
+
+#[cfg(test)]
+mod tests {
+    use super::*;
+
+    #[test]
+    fn laws_can_be_called() {
+        bucket_is_in_its_row();
+        bucket_is_that_of_the_report();
+        bucket_of_a_linked_slot();
+        bucket_of_a_slot_stays();
+        unlinks_are_on_the_bucket_of_their_text();
+    }
+}
