@@ -1,5 +1,5 @@
 -- What one event makes of each part of a log's end, and each part as a fold over the events.
-use Rattle.std.proofs.Common.{◌≡◌, ℕ, ◌+◌, Bool, true, false, cond, List, [], ◌∷◌, Option, refl, sym, ap, ◌∙◌}
+use Rattle.std.proofs.Common.{◌≡◌, ℕ, ◌+◌, Bool, true, false, cond, List, [], ◌∷◌, Option, Some, None, refl, sym, ap, ◌∙◌}
 use native.Mathlib.Omega.{arith}
 use Rattle.std.specs.Prelude.{nat_eq, count_by}
 use Rattle.std.specs.List.{fold, enumerate_from}
@@ -7,8 +7,8 @@ use Rattle.std.specs.Option.{option_map}
 use Rattle.std.proofs.lemmas.List.Sums.{sum_by-cons}
 use Rattle.intern_log.specs.declared.event.Event.{Event}
 use Rattle.intern_log.specs.declared.event.What.{What}
-use Rattle.intern_log.specs.declared.event.What.TheVariants.{Create, Take, Found, Drop, Perm, Kill, Claim, Free, Open, Close, Grace, Lock, Unlock, Unlink, ResizeTaken, ResizeGiven, Level}
-use Rattle.intern_log.specs.Now.{OpenSection, Resizing, Now, changed_by, now_after_event, now_after}
+use Rattle.intern_log.specs.declared.event.What.TheVariants.{Create, Claim, Free, Open, Close, Grace, Lock, Unlink}
+use Rattle.intern_log.specs.Now.{OpenSection, Resizing, Now, resizing_after_lock, changed_by, now_after_event, now_after}
 use Rattle.intern_log.specs.Orderly.{is_grace, level_after_event}
 use Rattle.log_check.specs.Parts.{phase_seen, phase_by, section_by, lock_by, owner_by}
 
@@ -44,6 +44,11 @@ same_both : {A : Type 0} (b : Bool) (x : A) → cond b x x ≡ x
 same_both true x = refl
 same_both false x = refl
 
+-- a Lock leaves who has the resize lock
+same_resizer : (seat row : ℕ) (resizing : Option Resizing) → seat_in (option_map (resizing_after_lock seat row) resizing) ≡ seat_in resizing
+same_resizer seat row None = refl
+same_resizer seat row (Some r) = refl
+
 pub follows_by_part : (now : Now) (seat : ℕ) (what : What) → FollowsByPart now seat what
 follows_by_part now seat (Create t h) = record { phase = λ s. through phase_seen (nat_eq s h.slot) _ _; section = λ k. sym (same_both (nat_eq k seat) _); lock = λ r b. refl; owner = refl; level = refl; graces = omega arith }
 follows_by_part now seat (Claim x) = record { phase = λ s. through phase_seen (nat_eq s x) _ _; section = λ k. sym (same_both (nat_eq k seat) _); lock = λ r b. refl; owner = refl; level = refl; graces = omega arith }
@@ -51,17 +56,9 @@ follows_by_part now seat (Free x) = record { phase = λ s. through phase_seen (n
 follows_by_part now seat (Unlink x) = record { phase = λ s. through phase_seen (nat_eq s x) _ _; section = λ k. sym (same_both (nat_eq k seat) _); lock = λ r b. refl; owner = refl; level = refl; graces = omega arith }
 follows_by_part now seat (Open c) = record { phase = λ s. refl; section = λ k. through place_in (nat_eq k seat) _ _; lock = λ r b. refl; owner = refl; level = refl; graces = omega arith }
 follows_by_part now seat Close = record { phase = λ s. refl; section = λ k. through place_in (nat_eq k seat) _ _; lock = λ r b. refl; owner = refl; level = refl; graces = omega arith }
-follows_by_part now seat (Take t h) = record { phase = λ s. refl; section = λ k. sym (same_both (nat_eq k seat) _); lock = λ r b. refl; owner = refl; level = refl; graces = omega arith }
-follows_by_part now seat (Found t h) = record { phase = λ s. refl; section = λ k. sym (same_both (nat_eq k seat) _); lock = λ r b. refl; owner = refl; level = refl; graces = omega arith }
-follows_by_part now seat (Drop h) = record { phase = λ s. refl; section = λ k. sym (same_both (nat_eq k seat) _); lock = λ r b. refl; owner = refl; level = refl; graces = omega arith }
-follows_by_part now seat (Perm h) = record { phase = λ s. refl; section = λ k. sym (same_both (nat_eq k seat) _); lock = λ r b. refl; owner = refl; level = refl; graces = omega arith }
-follows_by_part now seat (Kill h) = record { phase = λ s. refl; section = λ k. sym (same_both (nat_eq k seat) _); lock = λ r b. refl; owner = refl; level = refl; graces = omega arith }
 follows_by_part now seat Grace = record { phase = λ s. refl; section = λ k. sym (same_both (nat_eq k seat) _); lock = λ r b. refl; owner = refl; level = refl; graces = refl }
-follows_by_part now seat (Lock x y) = record { phase = λ s. refl; section = λ k. sym (same_both (nat_eq k seat) _); lock = λ r b. refl; owner = refl; level = refl; graces = omega arith }
-follows_by_part now seat (Unlock x y) = record { phase = λ s. refl; section = λ k. sym (same_both (nat_eq k seat) _); lock = λ r b. refl; owner = refl; level = refl; graces = omega arith }
-follows_by_part now seat ResizeTaken = record { phase = λ s. refl; section = λ k. sym (same_both (nat_eq k seat) _); lock = λ r b. refl; owner = refl; level = refl; graces = omega arith }
-follows_by_part now seat ResizeGiven = record { phase = λ s. refl; section = λ k. sym (same_both (nat_eq k seat) _); lock = λ r b. refl; owner = refl; level = refl; graces = omega arith }
-follows_by_part now seat (Level l) = record { phase = λ s. refl; section = λ k. sym (same_both (nat_eq k seat) _); lock = λ r b. refl; owner = refl; level = refl; graces = omega arith }
+follows_by_part now seat (Lock x y) = record { phase = λ s. refl; section = λ k. sym (same_both (nat_eq k seat) _); lock = λ r b. refl; owner = same_resizer seat x now.resizing; level = refl; graces = omega arith }
+follows_by_part now seat _ = record { phase = λ s. refl; section = λ k. sym (same_both (nat_eq k seat) _); lock = λ r b. refl; owner = refl; level = refl; graces = omega arith }
 
 -- a part that each event changes by a step is the fold of that step, with the places or without them
 pub part_by_place : {A : Type 0} (part : Now → A) (step : A → ℕ × Event → A) → ((now : Now) (e : Event) → part (now_after_event now e) ≡ step (part now) (now.place, e)) →
