@@ -1,5 +1,8 @@
 //! The head of a bucket's chain.
-use crate::link::{link_of, link_word};
+ghost use Rattle.std.specs.Prelude.{◌≡◌, ◌/◌, ◌^◌, ◌≤◌};
+ghost use Rattle.marked_word.specs.Head as head;
+
+use crate::link::{link_of, link_word, node_of};
 
 /// The word at the head of a bucket.
 #[derive(Clone, Copy, Debug, PartialEq, Eq)]
@@ -42,6 +45,31 @@ impl Head {
     }
 }
 
+/// Whether the head of this word is locked.
+#[inline]
+pub fn is_locked(word: u64) -> bool
+    ensures value { result ≡ head.is_locked word }
+{
+    word & 1 == 1
+}
+
+/// Whether the head of this word is redirected.
+#[inline]
+pub fn is_redirected(word: u64) -> bool
+    ensures value { result ≡ head.is_redirected word }
+{
+    word >> 1 & 1 == 1
+}
+
+/// The first node of the chain whose head's word this is, if any.
+#[inline]
+pub fn first_of(word: u64) -> Option<u32>
+    requires head { word / 4 ≤ 2 ^ 32 }
+    ensures value { result ≡ head.first_of word }
+{
+    node_of(word >> 2)
+}
+
 #[cfg(test)]
 mod tests {
     use super::*;
@@ -79,5 +107,8 @@ mod tests {
             assert_eq!(rt; Head::of_word(word), Some(head), "at {word}");
         }
         assert_eq!(rt; Head::of_word(0x4_0000_0004), None);
+        assert!(rt; is_locked(5) && !is_locked(2));
+        assert!(rt; is_redirected(2) && !is_redirected(5));
+        assert_eq!(rt; first_of(19), Some(3));
     }
 }

@@ -20,6 +20,6 @@ pub mod link;
 pub mod meta;
 
 pub use count::Count;
-pub use head::Head;
-pub use link::{link_of, link_word};
+pub use head::{Head, first_of, is_locked, is_redirected};
+pub use link::{link_of, link_word, node_of};
 pub use meta::Meta;

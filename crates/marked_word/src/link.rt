@@ -28,6 +28,18 @@ pub fn link_of(word: u64) -> Option<Option<u32>>
     }
 }
 
+/// The node that a word names which is a link, if any.
+#[inline]
+pub fn node_of(word: u64) -> Option<u32>
+    requires link { word ≤ 2 ^ 32 }
+    ensures value { result ≡ link.node_of word }
+{
+    match word.checked_sub(1) {
+        None => None,
+        Some(node) => Some(node as u32),
+    }
+}
+
 #[cfg(test)]
 mod tests {
     use super::*;
@@ -39,5 +51,7 @@ mod tests {
             assert_eq!(rt; link_of(word), Some(node), "at {word}");
         }
         assert_eq!(rt; link_of(0x1_0000_0001), None);
+        assert_eq!(rt; node_of(0), None);
+        assert_eq!(rt; node_of(8), Some(7));
     }
 }

@@ -12,7 +12,7 @@ ghost use Rattle.text_words.specs.Hash as hash;
 pub mod laws;
 pub mod words;
 
-pub use words::{equal_word, pack, unpack, words_of};
+pub use words::{equal_word, pack, unpack, word_at, words_of};
 
 /// The hash of a text: from 0 on, for each byte, 31 times what there was plus the byte, modulo 2^32.
 #[inline]

@@ -55,9 +55,9 @@ pub fn equal_word(text: &[u8], at: usize, word: u64) -> bool
     word_at(text, at) == word
 }
 
-// Word `at` of a text.
+/// Word `at` of a text. Only the bytes of that word are read.
 #[inline]
-fn word_at(text: &[u8], at: usize) -> u64
+pub fn word_at(text: &[u8], at: usize) -> u64
     requires within { at < words_of (length text.now) }
     ensures value { result ≡ word_at text.now at }
 {
