@@ -23,3 +23,5 @@ pub mod MachineSteps
 pub mod WorkQueue
 pub mod WorkLocking
 pub mod WorkEnding
+pub mod GrowLocking
+pub mod ShrinkLocking

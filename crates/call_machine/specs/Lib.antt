@@ -40,3 +40,5 @@ pub mod WorkEvents
 pub mod WorkCounts
 pub mod LockedBuckets
 pub mod WorkEnds
+pub mod GrowLocks
+pub mod ShrinkLocks

@@ -1,4 +1,4 @@
-//! Laws of the machine of any call: of which kinds its steps are, and which events they have.
+//! Laws of the machine of any call: of which kinds its steps are, which events they have, and that it stays sound.
 //! Each function does nothing: its contract is the law.
 ghost use Rattle.std.specs.Prelude.{◌≡◌, ℕ, ◌<◌, ◌^◌, [], Some};
 ghost use Rattle.intern_log.specs.declared.event.Kind.{Kind};

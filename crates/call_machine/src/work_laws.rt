@@ -1,5 +1,5 @@
-//! Laws of the works of a table, of their beginnings and of sweeps: which events they have, and when a sweep is inside its
-//! section. Each function does nothing: its contract is the law.
+//! Laws of the works of a table, of their beginnings and of sweeps: which events they have, when a sweep is inside its section,
+//! and which heads are locked. Each function does nothing: its contract is the law.
 ghost use Rattle.std.specs.Prelude.{◌≡◌, ℕ, false, Some};
 ghost use Rattle.intern_log.specs.declared.event.What.{What};
 ghost use Rattle.intern_log.specs.declared.event.What.TheVariants as what;
@@ -11,9 +11,12 @@ ghost use Rattle.call_machine.specs.declared.step.Plan.TheVariants as plan;
 ghost use Rattle.call_machine.specs.declared.sweep.Sweeping.{Sweeping};
 ghost use Rattle.call_machine.specs.Begins.{begin_event};
 ghost use Rattle.call_machine.specs.CallSections.{is_inside_after, IsInTurn};
+ghost use Rattle.call_machine.specs.declared.work.Task.TheVariants.{Grow, Shrink};
+ghost use Rattle.call_machine.specs.GrowLocks.{grow_locked, IsLockChange};
 ghost use Rattle.call_machine.specs.LockedBuckets.{locked_bucket, locked_after, IsLockedInTurn};
 ghost use Rattle.call_machine.specs.MachineParts.{is_inside_sweeping};
 ghost use Rattle.call_machine.specs.Polls.{poll_got, poll_event};
+ghost use Rattle.call_machine.specs.ShrinkLocks.{shrink_locked};
 ghost use Rattle.call_machine.specs.SoundPoll.{IsSoundPoll, FitsPoll};
 ghost use Rattle.call_machine.specs.SoundWork.{Unlinks, Resizes};
 ghost use Rattle.call_machine.specs.Sweeps.{begun_sweep, sweep_plan, sweep_got, sweep_event};
@@ -73,6 +76,19 @@ pub fn levels_are_stored_by_resizes()
     ensures law { (p : Polling) (word level : ℕ) → IsSoundPoll p → poll_event p word ≡ Some (what.Level level) → Resizes p.work.task }
 {}
 
+/// The Lock of a grow adds its head to those that are locked, an Unlock takes its head away, and no other step changes which are
+/// locked; at the end those of the row that is left are.
+pub fn heads_locked_by_a_grow()
+    ensures law { (p : Polling) (word : ℕ) → IsSoundPoll p → FitsPoll p word → p.work.task ≡ Grow →
+        IsLockChange (poll_event p word) (grow_locked p.work) (grow_locked (poll_got p word).work) }
+{}
+
+/// So do the Locks and Unlocks of a shrink.
+pub fn heads_locked_by_a_shrink()
+    ensures law { (p : Polling) (word : ℕ) → IsSoundPoll p → FitsPoll p word → p.work.task ≡ Shrink →
+        IsLockChange (poll_event p word) (shrink_locked p.work) (shrink_locked (poll_got p word).work) }
+{}
+
 #[cfg(test)]
 mod tests {
     use super::*;
@@ -89,5 +105,7 @@ mod tests {
         buckets_are_locked_one_at_a_time();
         locked_bucket_by_a_step();
         levels_are_stored_by_resizes();
+        heads_locked_by_a_grow();
+        heads_locked_by_a_shrink();
     }
 }

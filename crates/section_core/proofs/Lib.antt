@@ -1,0 +1,3 @@
+pub mod Graces
+pub mod States
+pub mod Runs

@@ -1,0 +1,4 @@
+pub mod Sections
+pub mod Sound
+pub mod Checks
+pub mod Steps
