@@ -2,9 +2,7 @@
 use Rattle.std.proofs.Common.{◌≡◌, ◌<◌, ◌≤◌, ◌*◌, ℕ, subst, length}
 use native.Mathlib.Omega.{arith}
 use Rattle.text_words.specs.Words.{words_of}
-use Rattle.table_shape.specs.declared.shape.Shape.{Shape}
 use Rattle.table_shape.specs.Place.{IsInside}
-use Rattle.call_machine.specs.declared.step.Plan.{Plan}
 use Rattle.call_machine.specs.declared.step.Plan.TheVariants as plan
 use Rattle.call_machine.specs.declared.step.Step.{Step}
 use Rattle.call_machine.specs.declared.stage.Calling.{Calling}
@@ -18,12 +16,8 @@ use Rattle.call_machine.specs.declared.stage.LeaveStage.TheVariants as leave
 use Rattle.call_machine.specs.declared.stage.NodeStage.TheVariants as node
 use Rattle.call_machine.specs.declared.stage.ReadStage.TheVariants as read
 use Rattle.call_machine.specs.Calls.{plan_at, plan_of}
+use Rattle.call_machine.specs.Steps.{IsPlanInside}
 use Rattle.call_machine.specs.SoundCall.{IsSoundCall, IsSoundStage}
-
--- a plan that is a step is on a word of the table
-abbrev pub IsPlanInside : Shape → Plan → Type 0
-IsPlanInside shape (plan.Answered a) = Unit {0}
-IsPlanInside shape (plan.Step step) = IsInside shape step.place
 
 -- a text that fits has its words inside a slot
 pub word_inside : (words len at : ℕ) → at < words_of len → len ≤ 8 * words → at < words
@@ -64,3 +58,7 @@ stage_inside c (stage.Read (read.Text k len)) sound at = (sound.handle.0, word_i
 
 pub step_inside : (c : Calling) (step : Step) → IsSoundCall c → plan_of c ≡ plan.Step step → IsInside c.shape step.place
 step_inside c step sound is = subst (IsPlanInside c.shape) is (stage_inside c c.stage sound sound.stage)
+
+-- so it is where the stage is known
+pub inside_at : (c : Calling) (s : CallStage) → IsSoundCall c → c.stage ≡ s → IsPlanInside c.shape (plan_at c s)
+inside_at c s sound is = subst (λ stage. IsPlanInside c.shape (plan_at c stage)) is (stage_inside c c.stage sound sound.stage)

@@ -1,5 +1,5 @@
--- The machine of any call begins sound, and stays so by each word that it may be told.
-use Rattle.std.proofs.Common.{mod-lt, ◌≡◌, ◌≢◌, ◌<◌, ◌+◌, ◌^◌, ◌==◌, ℕ, Option, Some, None, List, [], length, refl, sym, ap, subst, ◌-◌, ◌/◌}
+-- The machine of any call begins sound, and stays so by each word that it may be told; what it leaves its seat is sound.
+use Rattle.std.proofs.Common.{mod-lt, ◌≡◌, ◌≢◌, ◌<◌, ◌+◌, ◌^◌, ◌==◌, ℕ, Option, Some, None, List, [], length, refl, sym, ap, subst, ◌-◌, ◌/◌, ◌∙◌}
 use native.Mathlib.Omega.{arith}
 use Rattle.std.proofs.lemmas.Nat.{pow_pos}
 use Rattle.std.proofs.lemmas.List.Elements.{All-nil}
@@ -12,6 +12,7 @@ use Rattle.call_machine.specs.declared.begin.TheConstants.{SPENT}
 use Rattle.call_machine.specs.declared.begin.Beginning.{Beginning}
 use Rattle.call_machine.specs.declared.begin.BeginStage.{BeginStage}
 use Rattle.call_machine.specs.declared.begin.BeginStage.TheVariants as begin
+use Rattle.call_machine.specs.declared.call.Answer.{Answer}
 use Rattle.call_machine.specs.declared.call.Answer.TheVariants as answer
 use Rattle.call_machine.specs.declared.call.Call.{Call}
 use Rattle.call_machine.specs.declared.call.Call.TheVariants as call
@@ -36,7 +37,7 @@ use Rattle.call_machine.specs.declared.work.Work.{Work}
 use Rattle.call_machine.specs.Begin.{begins, begun_walk, no_handle}
 use Rattle.call_machine.specs.Begins.{taken, bounded, scanned, begin_next, begin_got}
 use Rattle.call_machine.specs.Calls as calls
-use Rattle.call_machine.specs.Machines.{caller_of, polls_grace, polls_work, starts, started, got_of}
+use Rattle.call_machine.specs.Machines.{caller_of, polls_grace, polls_work, starts, started, shape_of, got_of, own_begun, work_left, own_of}
 use Rattle.call_machine.specs.MachineParts.{IsSoundMachine}
 use Rattle.call_machine.specs.Polls.{begun_poll, of_sweep, poll_got}
 use Rattle.call_machine.specs.Texts.{is_too_long}
@@ -45,12 +46,14 @@ use Rattle.call_machine.specs.SoundCall.{IsSoundCaller, FitsCall, IsSoundFind, F
 use Rattle.call_machine.specs.SoundMachine.{IsUnfinished, IsSoundOwn, HasHandle, MayStart, FitsMachine}
 use Rattle.call_machine.specs.SoundPoll.{IsSoundPoll, FitsPoll}
 use Rattle.call_machine.specs.SoundSweep.{IsIdle, IsSoundSweepStage, IsSoundSweep, FitsSweepStage}
-use Rattle.call_machine.specs.SoundWork.{IsNode, LeadsToLevel, IsBucket, Unlinks, IsSoundWork}
+use Rattle.call_machine.specs.SoundWork.{IsNode, LeadsToLevel, IsBucket, Unlinks, IsSoundStart, IsSoundWork}
 use Rattle.call_machine.specs.Sweeps.{after_find, find_got, sweep_got_at}
 use Rattle.call_machine.specs.WorkLocks.{begins_pass}
+use Rattle.call_machine.specs.Works.{first_stage, begun_work}
 use Rattle.call_machine.proofs.Choices.{where_it_is, either_way, not_equal}
 use Rattle.call_machine.proofs.GotOrderly.{begins_soundly_law, none_own}
 use Rattle.call_machine.proofs.GotSound.{sound_law, same_law}
+use Rattle.call_machine.proofs.MachineSteps.{task_left}
 use Rattle.call_machine.proofs.Walks.{node_below}
 use Rattle.call_machine.proofs.WorkSound.{cleans_soundly, from_first, not_locked, work_soundly}
 
@@ -94,7 +97,7 @@ begin_soundly : (b : Beginning) (word : ℕ) → IsSoundBegin b → FitsBegin b 
 begin_soundly b word sound fits = record { caller = sound.caller; stage = begin_stage_soundly b.caller.shape b.stage word sound.caller.shape sound.stage fits }
 
 -- how a poll goes on
-poll_soundly : (p : Polling) (word : ℕ) → word < 2 ^ 64 → IsSoundPoll p → FitsPoll p word → IsSoundPoll (poll_got p word)
+pub poll_soundly : (p : Polling) (word : ℕ) → word < 2 ^ 64 → IsSoundPoll p → FitsPoll p word → IsSoundPoll (poll_got p word)
 poll_soundly p word small sound fits = record { caller = sound.caller; work = work_soundly p.caller.shape p.work word small sound.work fits.1 }
 
 -- how a sweep finds its bucket
@@ -166,7 +169,7 @@ call_soundly c work grace word small sound fits =
 pub got_law : (m : Machine) (word : ℕ) → word < 2 ^ 64 → IsSoundMachine m → FitsMachine m word → IsSoundMachine (got_of m word)
 got_law (machine.Call c work grace) word small sound fits = call_soundly c work grace word small sound fits
 got_law (machine.Begin b) word small sound fits = begin_soundly b word sound fits
-got_law (machine.Poll p) word small sound fits = poll_soundly p word small sound fits
+got_law (machine.Poll p) word small sound fits = (poll_soundly p word small sound.0 fits, λ is. sound.1 (sym (task_left p.caller.shape p.work p.work.stage word refl) ∙ is))
 got_law (machine.Sweep s) word small sound fits = sweep_stage_soundly s s.stage word refl small sound sound.stage fits
 
 -- who calls
@@ -183,27 +186,27 @@ walks_soundly caller own goal text sound of =
     (all.1, subst (λ shape. IfSome own.work (IsUnfinished shape)) same of.work, subst (λ (shape : Shape). IfSome own.grace (λ grace. grace.next < shape.seats)) same of.grace)
 
 -- what is unfinished is gone on with
-begun_poll_soundly : (caller : Caller) (w : Work) → IsSoundCaller caller → IsUnfinished caller.shape w → IsSoundPoll (begun_poll caller w)
+pub begun_poll_soundly : (caller : Caller) (w : Work) → IsSoundCaller caller → IsSoundWork caller.shape w → IsSoundPoll (begun_poll caller w)
 begun_poll_soundly caller w sound has = record {
   caller = sound;
   work = record {
-    sound = has.0.sound;
-    level = has.0.level;
-    leads = has.0.leads;
-    bucket = has.0.bucket;
-    chains = has.0.chains;
-    rest = has.0.rest;
-    waiting = has.0.waiting;
-    few = has.0.few;
-    idle = has.0.idle;
-    pass_waiting = has.0.pass_waiting;
-    stage = has.0.stage;
+    sound = has.sound;
+    level = has.level;
+    leads = has.leads;
+    bucket = has.bucket;
+    chains = has.chains;
+    rest = has.rest;
+    waiting = has.waiting;
+    few = has.few;
+    idle = has.idle;
+    pass_waiting = has.pass_waiting;
+    stage = has.stage;
   };
 }
 
 polls_work_soundly : (caller : Caller) (o : Option Work) → IsSoundCaller caller → IfSome o (IsUnfinished caller.shape) → IsSoundMachine (polls_work caller o)
 polls_work_soundly caller None sound has = record { caller = sound; stage = tt }
-polls_work_soundly caller (Some w) sound has = begun_poll_soundly caller w sound has
+polls_work_soundly caller (Some w) sound has = (begun_poll_soundly caller w sound has.0, has.1)
 
 polls_grace_soundly : (caller : Caller) (o : Option Grace) → IsSoundCaller caller → IfSome o (λ grace. grace.next < caller.shape.seats) → IsSoundMachine (polls_grace caller o)
 polls_grace_soundly caller None sound has = record { caller = sound; stage = tt }
@@ -247,3 +250,47 @@ starts_soundly caller own (call.Sweep text) sound of has = record { poll = of_sw
 
 pub start_law : (kind : Kind) (shape : Shape) (own : Own) (c : Call) → IsSound shape → IsSoundOwn shape own → HasHandle shape c → MayStart kind own.work own.grace c → IsSoundMachine (started kind shape own c)
 start_law kind shape own c sound of has may = starts_soundly (caller_of kind shape own) own c (calls_soundly kind shape own sound of) of has
+
+-- what a machine leaves
+first_bucket : (task : Task) (level : ℕ) → IsBucket task level 0
+first_bucket Clean level = pow_pos level
+first_bucket Grow level = pow_pos level
+first_bucket Shrink level = pow_pos (level - 1)
+first_bucket Sweep level = pow_pos level
+
+first_soundly : (task : Task) → IsSoundStart task (first_stage task)
+first_soundly Clean = tt
+first_soundly Grow = tt
+first_soundly Shrink = tt
+first_soundly Sweep = tt
+
+begun_soundly : (shape : Shape) (task : Task) (level : ℕ) → IsSound shape → task ≢ Sweep → IsLevel shape level → LeadsToLevel shape task level → IsSoundWork shape (begun_work task level)
+begun_soundly shape task level sound at is leads = record {
+  sound = sound;
+  level = is;
+  leads = leads;
+  bucket = first_bucket task level;
+  chains = record { even = tt; odd = tt; even_last = tt; odd_last = tt };
+  rest = tt;
+  waiting = All-nil _;
+  few = omega arith;
+  idle = λ resizes. refl;
+  pass_waiting = omega arith;
+  stage = (first_soundly task, refl, refl);
+}
+
+begin_leaves : (caller : Caller) (s : BeginStage) → IsSoundCaller caller → IsSoundBeginStage caller.shape s → IsSoundOwn caller.shape (own_begun caller s)
+begin_leaves caller (begin.Began task level) sound at = record { number = sound.number; cursor = sound.cursor; work = (begun_soundly caller.shape task level sound.shape at.0 at.1 at.2, at.0); grace = tt }
+begin_leaves caller (begin.BeganGrace grace) sound at = record { number = sound.number; cursor = sound.cursor; work = tt; grace = at }
+begin_leaves caller (begin.Waits grace) sound at = record { number = sound.number; cursor = sound.cursor; work = tt; grace = at }
+begin_leaves caller _ sound at = record { number = sound.number; cursor = sound.cursor; work = tt; grace = tt }
+
+work_leaves : (shape : Shape) (w : Work) (a : Option Answer) → IsUnfinished shape w → IfSome (work_left w a) (IsUnfinished shape)
+work_leaves shape w (Some (answer.Done did)) has = tt
+work_leaves shape w _ has = has
+
+pub left_law : (m : Machine) → IsSoundMachine m → IsSoundOwn (shape_of m) (own_of m)
+left_law (machine.Call c work grace) sound = record { number = sound.0.number; cursor = sound.0.cursor; work = sound.1; grace = sound.2 }
+left_law (machine.Begin b) sound = begin_leaves b.caller b.stage sound.caller sound.stage
+left_law (machine.Poll p) sound = record { number = sound.0.caller.number; cursor = sound.0.caller.cursor; work = work_leaves p.caller.shape p.work p.answer (sound.0.work, sound.1); grace = tt }
+left_law (machine.Sweep s) sound = record { number = sound.poll.caller.number; cursor = sound.poll.caller.cursor; work = tt; grace = tt }

@@ -9,7 +9,7 @@ use Rattle.call_machine.specs.declared.sweep.SweepStage.{SweepStage}
 use Rattle.call_machine.specs.declared.sweep.SweepStage.TheVariants.{Check, Find, SetLock, Retry, Enter, Bucket, Spent}
 use Rattle.call_machine.specs.Sweeps.{sweep_plan_at, sweep_plan}
 use Rattle.call_machine.specs.SoundSweep.{IsSoundSweep, IsSoundSweepStage}
-use Rattle.call_machine.proofs.Inside.{IsPlanInside}
+use Rattle.call_machine.specs.Steps.{IsPlanInside}
 use Rattle.call_machine.proofs.WorkInside.{plan_inside}
 
 pub sweep_at : (s : Sweeping) (stage : SweepStage) → IsSoundSweep s → s.stage ≡ stage → IsSoundSweepStage s stage
@@ -31,3 +31,7 @@ sweep_stage_inside s (Spent counter) sound at = tt
 
 pub sweep_inside : (s : Sweeping) (step : Step) → IsSoundSweep s → sweep_plan s ≡ plan.Step step → IsInside s.poll.caller.shape step.place
 sweep_inside s step sound is = subst (IsPlanInside s.poll.caller.shape) is (sweep_stage_inside s s.stage sound sound.stage)
+
+-- so it is where the stage is known
+pub sweep_inside_at : (s : Sweeping) (stage : SweepStage) → IsSoundSweep s → s.stage ≡ stage → IsPlanInside s.poll.caller.shape (sweep_plan_at s stage)
+sweep_inside_at s stage sound is = subst (λ at. IsPlanInside s.poll.caller.shape (sweep_plan_at s at)) is (sweep_stage_inside s s.stage sound sound.stage)

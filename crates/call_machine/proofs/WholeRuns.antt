@@ -24,7 +24,7 @@ use Rattle.call_machine.proofs.SectionSteps.{in_turn_law, inside_by_event_law, o
 use Rattle.call_machine.proofs.SlotSteps.{of_slot_law, slot_by_event_law, slot_begins_law, slot_answers_law}
 
 -- the sections of a run
-section_more : (inside : Bool) (e : Option What) (events : List What) → IsInTurn e inside → ArePairedSections (is_inside_after e inside) events → ArePairedSections inside (option_to_list e ++ events)
+pub section_more : (inside : Bool) (e : Option What) (events : List What) → IsInTurn e inside → ArePairedSections (is_inside_after e inside) events → ArePairedSections inside (option_to_list e ++ events)
 section_more inside None events turn rest = rest
 section_more inside (Some e) events turn rest = (turn, rest)
 

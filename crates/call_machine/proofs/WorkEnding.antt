@@ -136,7 +136,7 @@ ends_well shape w (stage.End end.StoreLevel) word is tidy = raises_well w after.
 ends_well shape w (stage.End end.ClearNewLevel) word is tidy = λ d. absurd (cc)
 ends_well shape w (stage.End end.GiveResize) word is tidy = λ done. (tidy, ends_none w w.task (ap (locked_at w) is))
 
-over_done : (w : Work) (task : Task) (p : Progress) → IsOver (answer_of w task p) → p ≡ progress.Done
+pub over_done : (w : Work) (task : Task) (p : Progress) → IsOver (answer_of w task p) → p ≡ progress.Done
 over_done w Clean progress.Moved over = absurd over
 over_done w Clean progress.Done over = refl
 over_done w Clean (progress.PendingSeat seat) over = absurd over
@@ -154,7 +154,7 @@ over_done w Sweep progress.Done over = refl
 over_done w Sweep (progress.PendingSeat seat) over = absurd over
 over_done w Sweep (progress.PendingBucket row bucket) over = absurd over
 
-drop_none : (n : ℕ) → drop {A = Waiting} n [] ≡ []
+pub drop_none : (n : ℕ) → drop {A = Waiting} n [] ≡ []
 drop_none zero = refl
 drop_none (suc n) = refl
 
@@ -172,7 +172,7 @@ none_of (x ∷ xs) none = absurd (omega (arith, none))
 abbrev EndsTidy : Work × Progress → Type 0
 EndsTidy came = IsTidy came.0
 
-tidy_cleaning : (w : Work) (o : Option ℕ) → IsTidyAt w (cleans_on o)
+pub tidy_cleaning : (w : Work) (o : Option ℕ) → IsTidyAt w (cleans_on o)
 tidy_cleaning w None = tt
 tidy_cleaning w (Some x) = tt
 

@@ -33,7 +33,7 @@ use Rattle.call_machine.specs.Polls.{poll_plan_by, poll_plan}
 use Rattle.call_machine.specs.SoundPoll.{IsSoundPoll}
 use Rattle.call_machine.specs.SoundCall.{IsLevel}
 use Rattle.call_machine.specs.SoundWork.{IsNode, LeadsToLevel, IsBucket, HasNewSide, HasOldSide, IsSoundWorkStage, IsSoundWork}
-use Rattle.call_machine.proofs.Inside.{IsPlanInside}
+use Rattle.call_machine.specs.Steps.{IsPlanInside}
 use Rattle.call_machine.proofs.WorkSound.{even_new, even_old, half_of_grow, half_of_shrink}
 
 -- a row is twice as long as the one below it
@@ -119,3 +119,7 @@ plan_inside shape w (Some a) sound = tt
 
 pub poll_inside : (p : Polling) (step : Step) → IsSoundPoll p → poll_plan p ≡ plan.Step step → IsInside p.caller.shape step.place
 poll_inside p step sound is = subst (IsPlanInside p.caller.shape) is (plan_inside p.caller.shape p.work p.answer sound.work)
+
+-- so it is where the stage is known
+pub work_inside_at : (shape : Shape) (w : Work) (s : WorkStage) → IsSoundWork shape w → w.stage ≡ s → IsPlanInside shape (work_plan_at w s)
+work_inside_at shape w s sound is = subst (λ stage. IsPlanInside shape (work_plan_at w stage)) is (work_stage_inside shape w w.stage sound sound.stage)

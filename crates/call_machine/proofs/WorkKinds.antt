@@ -46,7 +46,8 @@ use Rattle.call_machine.specs.Works.{work_plan_at, work_event_at}
 use Rattle.call_machine.proofs.Choices.{where_it_is, found_equal, not_equal}
 use Rattle.call_machine.specs.SoundBegin.{IsSoundBegin, IsSoundBeginStage}
 use Rattle.table_shape.specs.declared.shape.Shape.{Shape}
-use Rattle.call_machine.proofs.Inside.{IsPlanInside, step_inside}
+use Rattle.call_machine.specs.Steps.{IsPlanInside}
+use Rattle.call_machine.proofs.Inside.{step_inside}
 use Rattle.call_machine.proofs.StepKinds.{IsPlanOfKind, IsPlanEvent, stage_of_kind, stage_event}
 use Rattle.call_machine.proofs.Sweeping.{sweep_inside}
 use Rattle.call_machine.proofs.WorkInside.{poll_inside}
@@ -145,7 +146,7 @@ begin_inside b step sound is = subst (IsPlanInside b.caller.shape) is (begin_sta
 machine_inside : (m : Machine) (step : Step) → IsSoundMachine m → plan_of m ≡ plan.Step step → IsInside (shape_of m) step.place
 machine_inside (machine.Call c work grace) step sound is = step_inside c step sound.0 is
 machine_inside (machine.Begin b) step sound is = begin_inside b step sound is
-machine_inside (machine.Poll p) step sound is = poll_inside p step sound is
+machine_inside (machine.Poll p) step sound is = poll_inside p step sound.0 is
 machine_inside (machine.Sweep s) step sound is = sweep_inside s step sound is
 
 pub inside_law : (m : Machine) (step : Step) → IsSoundMachine m → plan_of m ≡ plan.Step step → IsInside (shape_of m) step.place × IsByItsSeat (number_of m) step.kind step.place

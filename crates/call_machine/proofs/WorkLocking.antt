@@ -84,7 +84,7 @@ raises_none w then_do = go (raise_progress w.raised)
     go (progress.PendingBucket row bucket) = refl
     go progress.Done = ends_none (record w { stage = stage.Grace (grace.Raise then_do) }) w.task refl
 
-cleans_held : (v : Work) (next : Option ℕ) → locked_at v (cleans_on next) ≡ Some (v.level, v.bucket)
+pub cleans_held : (v : Work) (next : Option ℕ) → locked_at v (cleans_on next) ≡ Some (v.level, v.bucket)
 cleans_held v None = refl
 cleans_held v (Some x) = refl
 

@@ -4,8 +4,6 @@ use native.Mathlib.Omega.{arith}
 use Rattle.std.proofs.lemmas.List.{drop_all}
 use Rattle.std.specs.Prelude.{drop, nat_lt, slice_index_or}
 use Rattle.table_shape.specs.declared.shape.Shape.{Shape}
-use Rattle.call_machine.specs.declared.call.Answer.TheVariants as answer
-use Rattle.call_machine.specs.declared.call.Worked.{Worked}
 use Rattle.call_machine.specs.declared.work.Progress.TheVariants as progress
 use Rattle.call_machine.specs.declared.work.Task.{Task}
 use Rattle.call_machine.specs.declared.work.Task.TheVariants.{Clean, Grow, Shrink, Sweep}
@@ -28,6 +26,7 @@ use Rattle.call_machine.specs.Polls.{answer_of, poll_got, poll_event, poll_event
 use Rattle.call_machine.specs.SoundPoll.{IsSoundPoll, FitsPoll}
 use Rattle.call_machine.specs.SoundWork.{IsSoundWork, IsSoundWorkStage}
 use Rattle.call_machine.specs.WorkCounts.{unlinked_after, graces_after, freed_at, still_waiting, behind_first, waiting_after, IsFirst, IsFreedInTurn}
+use Rattle.call_machine.specs.WorkEnds.{IsTold}
 use Rattle.call_machine.specs.WorkGraces.{all_freed}
 use Rattle.call_machine.specs.WorkParts.{bucket_at}
 use Rattle.call_machine.specs.WorkPasses.{unlinked, after_unlink}
@@ -190,29 +189,29 @@ pub freed_law : (p : Polling) (word : ℕ) → IsSoundPoll p → IsFreedInTurn (
 freed_law p word sound = poll_first p.caller.shape p.work p.answer word sound.work
 
 -- what the answer tells
-abbrev TellsCounts : Work → Option Answer → Type 0
-TellsCounts w (Some (answer.Done did)) = (did.unlinked ≡ w.unlinked) × (did.graces ≡ w.graces)
-TellsCounts w _ = Unit {0}
+abbrev TellsAll : Work → Option Answer → Type 0
+TellsAll w None = Unit {0}
+TellsAll w (Some a) = IsTold a w
 
-tells : (w : Work) (task : Task) (progress : Progress) → TellsCounts w (answer_of w task progress)
+tells : (w : Work) (task : Task) (progress : Progress) → TellsAll w (answer_of w task progress)
 tells w Clean progress.Moved = tt
-tells w Clean progress.Done = (refl, refl)
+tells w Clean progress.Done = (refl, refl, refl)
 tells w Clean (progress.PendingSeat seat) = tt
 tells w Clean (progress.PendingBucket row bucket) = tt
 tells w Grow progress.Moved = tt
-tells w Grow progress.Done = (refl, refl)
+tells w Grow progress.Done = (refl, refl, refl)
 tells w Grow (progress.PendingSeat seat) = tt
 tells w Grow (progress.PendingBucket row bucket) = tt
 tells w Shrink progress.Moved = tt
-tells w Shrink progress.Done = (refl, refl)
+tells w Shrink progress.Done = (refl, refl, refl)
 tells w Shrink (progress.PendingSeat seat) = tt
 tells w Shrink (progress.PendingBucket row bucket) = tt
 tells w Sweep progress.Moved = tt
-tells w Sweep progress.Done = tt
+tells w Sweep progress.Done = refl
 tells w Sweep (progress.PendingSeat seat) = tt
 tells w Sweep (progress.PendingBucket row bucket) = tt
 
-pub told_law : (p : Polling) (word : ℕ) (did : Worked) → (poll_got p word).answer ≡ Some (answer.Done did) → (did.unlinked ≡ (poll_got p word).work.unlinked) × (did.graces ≡ (poll_got p word).work.graces)
-told_law p word did is =
+pub told_law : (p : Polling) (word : ℕ) (a : Answer) → (poll_got p word).answer ≡ Some a → IsTold a (poll_got p word).work
+told_law p word a is =
     let came = work_got p.caller.shape p.work word in
-    subst (TellsCounts came.0) is (tells came.0 came.0.task came.1)
+    subst (TellsAll came.0) is (tells came.0 came.0.task came.1)

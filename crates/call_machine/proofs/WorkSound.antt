@@ -4,11 +4,10 @@ use native.Mathlib.Omega.{arith}
 use Rattle.std.proofs.lemmas.Bool.Decides.{nat_tests}
 use Rattle.std.proofs.lemmas.Nat.{pow_pos}
 use Rattle.std.proofs.lemmas.List.Elements.{All-append, All-cons, All-nil}
-use Rattle.std.specs.Prelude.{All, IfSome, nat_lt, min}
+use Rattle.std.specs.Prelude.{IfSome, nat_lt, min}
 use Rattle.marked_word.specs.Head.{is_locked, first_of}
 use Rattle.marked_word.specs.Link.{node_of}
 use Rattle.table_shape.specs.declared.shape.Shape.{Shape}
-use Rattle.table_shape.specs.Shape.{IsSound}
 use Rattle.call_machine.specs.declared.work.AfterGrace.{AfterGrace}
 use Rattle.call_machine.specs.declared.work.AfterGrace.TheVariants.{FreeAgain, FreeLast, UnzipOn, UnlockJoined, ClearNewLevel}
 use Rattle.call_machine.specs.declared.work.Chains.{Chains}
@@ -48,66 +47,7 @@ use Rattle.call_machine.specs.WorkGraces.{is_waited_for, after_grace, scanned, g
 use Rattle.call_machine.specs.WorkResizes.{joins_from, head_put, head_redirected, head_got, moved_first, moved, unzip_got, joins_at, join_got}
 use Rattle.call_machine.specs.Works.{start_got, next_pair, counts_pass, ends_clean, next_bucket, ends_sweep, unlocked, end_got, work_got_at, work_got}
 use Rattle.call_machine.proofs.Walks.{node_below}
-
--- at another stage
-staged : (shape : Shape) (w : Work) (s : WorkStage) → IsSoundWork shape w → IsSoundWorkStage shape w s → IsSoundWork shape (record w { stage = s })
-staged shape w s sound at = record {
-  sound = sound.sound;
-  level = sound.level;
-  leads = sound.leads;
-  bucket = sound.bucket;
-  chains = sound.chains;
-  rest = sound.rest;
-  waiting = sound.waiting;
-  few = sound.few;
-  idle = sound.idle;
-  pass_waiting = sound.pass_waiting;
-  stage = at;
-}
-
--- what is known beside the stage
-record Body (shape : Shape) (w : Work) : Type 0 where
-  sound : IsSound shape
-  level : IsLevel shape w.level
-  leads : LeadsToLevel shape w.task w.level
-  bucket : IsBucket w.task w.level w.bucket
-  chains : AreChains shape w.chains
-  rest : IsNode shape w.rest
-  waiting : All (MayWait shape) w.waiting.items
-  few : length w.waiting.items ≤ 256
-  idle : Resizes w.task → length w.waiting.items ≡ 0
-  pass_waiting : w.pass_waiting ≤ length w.waiting.items
-
-at_stage : (shape : Shape) (w : Work) (s : WorkStage) → Body shape w → IsSoundWorkStage shape w s → IsSoundWork shape (record w { stage = s })
-at_stage shape w s body at = record {
-  sound = body.sound;
-  level = body.level;
-  leads = body.leads;
-  bucket = body.bucket;
-  chains = body.chains;
-  rest = body.rest;
-  waiting = body.waiting;
-  few = body.few;
-  idle = body.idle;
-  pass_waiting = body.pass_waiting;
-  stage = at;
-}
-
--- with other chains, at another stage
-chained : (shape : Shape) (w : Work) (chains : Chains) (s : WorkStage) → IsSoundWork shape w → AreChains shape chains → IsSoundWorkStage shape w s → IsSoundWork shape (record w { chains = chains; stage = s })
-chained shape w chains s sound are at = record {
-  sound = sound.sound;
-  level = sound.level;
-  leads = sound.leads;
-  bucket = sound.bucket;
-  chains = are;
-  rest = sound.rest;
-  waiting = sound.waiting;
-  few = sound.few;
-  idle = sound.idle;
-  pass_waiting = sound.pass_waiting;
-  stage = at;
-}
+use Rattle.call_machine.proofs.WorkStaged.{staged, at_stage, Body, chained, at_bucket, empty, emptied}
 
 -- what a choice of two gives
 pub either : {A : Type 0} (P : A → Type 0) (b : Bool) (x y : A) → (b ≡ true → P x) → (b ≡ false → P y) → P (cond b x y)
@@ -363,22 +303,6 @@ next_in_row w Shrink is resizes below = subst (λ t. IsBucket t w.level (w.bucke
 next_in_row w Clean is resizes below = absurd resizes
 next_in_row w Sweep is resizes below = absurd resizes
 
-at_bucket : (shape : Shape) (w : Work) (bucket passes : ℕ) (s : WorkStage) → IsSoundWork shape w → IsBucket w.task w.level bucket → IsSoundWorkStage shape (record w { bucket = bucket; full_passes = passes }) s
-    → IsSoundWork shape (record w { bucket = bucket; full_passes = passes; stage = s })
-at_bucket shape w bucket passes s sound inside at = record {
-  sound = sound.sound;
-  level = sound.level;
-  leads = sound.leads;
-  bucket = inside;
-  chains = sound.chains;
-  rest = sound.rest;
-  waiting = sound.waiting;
-  few = sound.few;
-  idle = sound.idle;
-  pass_waiting = sound.pass_waiting;
-  stage = at;
-}
-
 pairs_soundly : (shape : Shape) (w : Work) (task : Task) → w.task ≡ task → Resizes task → IsSoundWork shape w → IsSoundWork shape (next_pair w).0
 pairs_soundly shape w task is resizes sound =
     let idle = sound.idle (subst Resizes (sym is) resizes) in
@@ -466,25 +390,6 @@ graces_soundly shape w (Raise after) word sound at = record {
 }
 graces_soundly shape w (Scan after seat) word sound at =
     either (λ (came : Work × Progress). IsSoundWork shape came.0) (is_waited_for w.raised word) _ _ (λ waits. sound) (λ passed. staged shape w _ sound (scans_soundly shape w after seat sound at))
-
--- what comes once a slot is freed
-abbrev empty : Work → Work
-empty w = record w { waiting = record { items = [] }; pass_waiting = 0 }
-
-emptied : (shape : Shape) (w : Work) (s : WorkStage) → IsSoundWork shape w → IsSoundWorkStage shape (empty w) s → IsSoundWork shape (record (empty w) { stage = s })
-emptied shape w s sound at = record {
-  sound = sound.sound;
-  level = sound.level;
-  leads = sound.leads;
-  bucket = sound.bucket;
-  chains = sound.chains;
-  rest = sound.rest;
-  waiting = All-nil (MayWait shape);
-  few = omega arith;
-  idle = λ resizes. refl;
-  pass_waiting = omega arith;
-  stage = at;
-}
 
 -- the work once all slots that waited are free
 ends_by_task : (shape : Shape) (w : Work) (task : Task) → w.task ≡ task → Unlinks task → IsSoundWork shape w → IsSoundWork shape (ends_freeing (empty w) task).0

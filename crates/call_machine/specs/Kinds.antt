@@ -196,7 +196,7 @@ IsMadeBy (deed.Exchange old new) word e = word ≡ old
 IsMadeBy (deed.Swap value) word e = word ≡ 0
 IsMadeBy _ word e = Unit {0}
 
--- a store of these kinds has an event, an exchange that found the word that it was to, and a claim that found a free slot
+-- a store or an add of these kinds has an event, an exchange that found the word that it was to, and a claim that found a free slot
 abbrev pub HasEvent : Option What → Type 0
 HasEvent None = ⊥
 HasEvent (Some e) = Unit {0}
@@ -205,12 +205,22 @@ abbrev pub HasEventOfStore : StepKind → Option What → Type 0
 HasEventOfStore K4 e = HasEvent e
 HasEventOfStore K10 e = HasEvent e
 HasEventOfStore K11 e = HasEvent e
+HasEventOfStore K15 e = HasEvent e
+HasEventOfStore K16 e = HasEvent e
+HasEventOfStore K18 e = HasEvent e
+HasEventOfStore K21 e = HasEvent e
+HasEventOfStore K25 e = HasEvent e
 HasEventOfStore _ e = Unit {0}
+
+abbrev pub HasEventOfAdd : StepKind → Option What → Type 0
+HasEventOfAdd K12 e = HasEvent e
+HasEventOfAdd _ e = Unit {0}
 
 abbrev pub HasItsEventBy : StepKind → Deed → ℕ → Option What → Type 0
 HasItsEventBy kind (deed.Store value) word e = HasEventOfStore kind e
 HasItsEventBy kind (deed.Exchange old new) word e = word ≡ old → HasEvent e
 HasItsEventBy kind (deed.Swap value) word e = word ≡ 0 → HasEvent e
+HasItsEventBy kind (deed.Add value) word e = HasEventOfAdd kind e
 HasItsEventBy kind _ word e = Unit {0}
 
 abbrev pub HasItsEvent : Step → ℕ → Option What → Type 0

@@ -29,6 +29,7 @@ pub mod CallSections
 pub mod CallMeasure
 pub mod Beginnings
 pub mod WholeCalls
+pub mod Claims
 pub mod Marks
 pub mod Sweeps
 pub mod SoundSweep
@@ -42,3 +43,4 @@ pub mod LockedBuckets
 pub mod WorkEnds
 pub mod GrowLocks
 pub mod ShrinkLocks
+pub mod WholeWorks

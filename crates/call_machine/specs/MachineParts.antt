@@ -1,9 +1,10 @@
 -- What a machine of any call may be on its way, whose it is, and when it is inside its section.
-use Rattle.std.specs.Prelude.{◌≡◌, ℕ, ◌<◌, Bool, true, false, IfSome}
+use Rattle.std.specs.Prelude.{◌≡◌, ◌≢◌, ℕ, ◌<◌, Bool, true, false, IfSome}
 use Rattle.call_machine.specs.declared.machine.Machine.{Machine}
 use Rattle.call_machine.specs.declared.machine.Machine.TheVariants as machine
 use Rattle.call_machine.specs.declared.sweep.SweepStage.{SweepStage}
 use Rattle.call_machine.specs.declared.sweep.SweepStage.TheVariants as sweep
+use Rattle.call_machine.specs.declared.work.Task.TheVariants.{Sweep}
 use Rattle.call_machine.specs.CallSections as calls
 use Rattle.call_machine.specs.SameCall.{IsSameCall}
 use Rattle.call_machine.specs.SoundBegin.{IsSoundBegin}
@@ -12,11 +13,11 @@ use Rattle.call_machine.specs.SoundMachine.{IsUnfinished}
 use Rattle.call_machine.specs.SoundPoll.{IsSoundPoll}
 use Rattle.call_machine.specs.SoundSweep.{IsSoundSweep}
 
--- a machine on its way; beside a try call stands what its seat has unfinished
+-- a machine on its way; beside a try call stands what its seat has unfinished, and a poll goes on with no sweep
 abbrev pub IsSoundMachine : Machine → Type 0
 IsSoundMachine (machine.Call c work grace) = IsSoundCall c × IfSome work (IsUnfinished c.shape) × IfSome grace (λ g. g.next < c.shape.seats)
 IsSoundMachine (machine.Begin b) = IsSoundBegin b
-IsSoundMachine (machine.Poll p) = IsSoundPoll p
+IsSoundMachine (machine.Poll p) = IsSoundPoll p × (p.work.task ≢ Sweep)
 IsSoundMachine (machine.Sweep s) = IsSoundSweep s
 
 -- the number of its seat

@@ -2,7 +2,7 @@
 use Rattle.std.specs.Prelude.{ℕ}
 use Rattle.table_shape.specs.declared.shape.Shape.{Shape}
 use Rattle.table_shape.specs.declared.place.Place.{Place}
-use Rattle.table_shape.specs.Place.{index_of}
+use Rattle.table_shape.specs.Place.{IsInside, index_of}
 use Rattle.call_machine.specs.declared.step.Deed.{Deed}
 use Rattle.call_machine.specs.declared.step.Deed.TheVariants as deed
 use Rattle.call_machine.specs.declared.step.Op.{Op}
@@ -46,3 +46,8 @@ adds kind place value = plan.Step (record { kind = kind; place = place; deed = d
 
 abbrev pub exchanges : StepKind → Place → ℕ → ℕ → Plan
 exchanges kind place old new = plan.Step (record { kind = kind; place = place; deed = deed.Exchange old new })
+
+-- what comes next is on a word of the table, where it is a step
+abbrev pub IsPlanInside : Shape → Plan → Type 0
+IsPlanInside shape (plan.Step step) = IsInside shape step.place
+IsPlanInside shape (plan.Answered answer) = Unit {0}

@@ -8,6 +8,7 @@ use intern_log::Handle;
 use table_shape::Shape;
 
 /// Whether a word is a level of the table.
+#[inline(always)]
 pub(crate) fn is_level(shape: &Shape, word: u64) -> bool
     ensures level { IsTrue result ↔ IsLevel shape.now word }
 {
@@ -15,6 +16,7 @@ pub(crate) fn is_level(shape: &Shape, word: u64) -> bool
 }
 
 /// Whether a word is a grace counter to which an odd number can be added.
+#[inline(always)]
 pub(crate) fn is_counter(word: u64) -> bool
     ensures counter { IsTrue result ↔ IsCounter word }
 {
@@ -22,6 +24,7 @@ pub(crate) fn is_counter(word: u64) -> bool
 }
 
 /// Whether a word is a head whose node is a slot of the table.
+#[inline(always)]
 pub(crate) fn is_head_word(shape: &Shape, word: u64) -> bool
     ensures head { IsTrue result ↔ IsHeadWord shape.now word }
 {
@@ -29,6 +32,7 @@ pub(crate) fn is_head_word(shape: &Shape, word: u64) -> bool
 }
 
 /// Whether a word is the meta of a text for which a slot has room.
+#[inline(always)]
 pub(crate) fn is_meta_word(shape: &Shape, word: u64) -> bool
     ensures meta { IsTrue result ↔ IsMetaWord shape.now word }
 {
@@ -37,6 +41,7 @@ pub(crate) fn is_meta_word(shape: &Shape, word: u64) -> bool
 }
 
 /// Whether the word can stand where a call looks that finds its head.
+#[inline(always)]
 pub(crate) fn fits_find(shape: &Shape, stage: FindStage, word: u64) -> bool
     ensures fits { IsTrue result ↔ FitsFind shape.now stage word }
 {
@@ -51,6 +56,7 @@ pub(crate) fn fits_find(shape: &Shape, stage: FindStage, word: u64) -> bool
 }
 
 /// Whether the word can stand where a walk looks.
+#[inline(always)]
 pub(crate) fn fits_node(shape: &Shape, stage: NodeStage, word: u64) -> bool
     ensures fits { IsTrue result ↔ FitsNode shape.now stage word }
 {
@@ -62,6 +68,7 @@ pub(crate) fn fits_node(shape: &Shape, stage: NodeStage, word: u64) -> bool
 }
 
 /// Whether the word can stand where an intern looks that makes an entry.
+#[inline(always)]
 pub(crate) fn fits_enter(shape: &Shape, stage: EnterStage, word: u64) -> bool
     ensures fits { IsTrue result ↔ FitsEnter shape.now stage word }
 {
@@ -77,6 +84,7 @@ pub(crate) fn fits_enter(shape: &Shape, stage: EnterStage, word: u64) -> bool
 }
 
 /// Whether a count word is that of the handle's entry, where the call asks for a handle that is held.
+#[inline(always)]
 fn is_held_count(handle: Handle, change: Change, word: u64) -> bool
     ensures held { IsTrue result ↔ IsHeldCount handle change word }
 {
@@ -89,6 +97,7 @@ fn is_held_count(handle: Handle, change: Change, word: u64) -> bool
 }
 
 /// Whether the word can stand where a call by handle looks.
+#[inline(always)]
 pub(crate) fn fits_handle(handle: Handle, stage: HandleStage, word: u64) -> bool
     ensures fits { IsTrue result ↔ FitsHandle handle stage word }
 {
@@ -99,6 +108,7 @@ pub(crate) fn fits_handle(handle: Handle, stage: HandleStage, word: u64) -> bool
 }
 
 /// Whether the word can stand where a reading of a text looks.
+#[inline(always)]
 pub(crate) fn fits_read(shape: &Shape, stage: ReadStage, word: u64) -> bool
     ensures fits { IsTrue result ↔ FitsRead shape.now stage word }
 {

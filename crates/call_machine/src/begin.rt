@@ -7,7 +7,7 @@ ghost use Rattle.call_machine.specs.SoundCall.{IsSoundCaller, IsLevel};
 
 use crate::call::Answer;
 use crate::stage::Caller;
-use crate::step::{Plan, StepKind, Want, add, exchange, load, store};
+use crate::step::{StepKind, Want, add, exchange, load, store};
 use crate::work::{Grace, Task};
 use crate::works::is_waited_for;
 use std::marker::Model;
@@ -33,7 +33,7 @@ pub enum BeginStage {
     RaiseGrace,
     /// The section word of the next number is loaded.
     ScanGrace { grace: Grace },
-    /// The work has begun, from this level on.
+    /// The work has begun: a grow or a shrink at this level. A clean loads the level later, and has the least one here.
     Began { task: Task, level: u8 },
     /// The grace has begun.
     BeganGrace { grace: Grace },
@@ -148,41 +148,31 @@ impl BeginMachine {
         }
     }
 
-    /// What comes next: a step, or nothing any more.
-    pub fn plan(&self) -> Plan
-        ensures value { result ≡ begins.begin_plan self.now }
-    {
-        let number = u64::from(self.caller.number);
-        match self.stage {
-            BeginStage::CheckWork { .. } | BeginStage::CheckGrace => {
-                load(StepKind::K9, Place::Counter)
-            }
-            BeginStage::TakeResize { .. } => {
-                exchange(StepKind::K17, Place::ResizeLock, 0, number + 1)
-            }
-            BeginStage::LoadBound { .. } => load(StepKind::K19, Place::Level),
-            BeginStage::GiveBound { .. } => store(StepKind::K18, Place::ResizeLock, 0),
-            BeginStage::RaiseGrace => add(StepKind::K12, Place::Counter, 2),
-            BeginStage::ScanGrace { grace } => load(StepKind::K13, Place::Section(grace.next)),
-            BeginStage::Began { .. } | BeginStage::BeganGrace { .. } => {
-                Plan::Answered(Answer::Begun)
-            }
-            BeginStage::Waits { grace } => Plan::Answered(Answer::PendingSeat { seat: grace.next }),
-            BeginStage::Answered(answer) => Plan::Answered(answer),
-        }
-    }
-
     /// What the call wants: its next step, or nothing any more.
     pub fn want(&self) -> Want
         ensures value { result ≡ want_of self.now.caller.shape (begins.begin_plan self.now) }
         ensures sound { IsSoundBegin self.now }
     {
-        match self.plan() {
-            Plan::Answered(answer) => Want::Answered(answer),
-            Plan::Step(step) => Want::Do {
-                op: step.op(&self.caller.shape),
-                kind: step.kind,
-            },
+        let shape = &self.caller.shape;
+        let number = u64::from(self.caller.number);
+        match self.stage {
+            BeginStage::CheckWork { .. } | BeginStage::CheckGrace => {
+                load(shape, StepKind::K9, Place::Counter)
+            }
+            BeginStage::TakeResize { .. } => {
+                exchange(shape, StepKind::K17, Place::ResizeLock, 0, number + 1)
+            }
+            BeginStage::LoadBound { .. } => load(shape, StepKind::K19, Place::Level),
+            BeginStage::GiveBound { .. } => store(shape, StepKind::K18, Place::ResizeLock, 0),
+            BeginStage::RaiseGrace => add(shape, StepKind::K12, Place::Counter, 2),
+            BeginStage::ScanGrace { grace } => {
+                load(shape, StepKind::K13, Place::Section(grace.next))
+            }
+            BeginStage::Began { .. } | BeginStage::BeganGrace { .. } => {
+                Want::Answered(Answer::Begun)
+            }
+            BeginStage::Waits { grace } => Want::Answered(Answer::PendingSeat { seat: grace.next }),
+            BeginStage::Answered(answer) => Want::Answered(answer),
         }
     }
 

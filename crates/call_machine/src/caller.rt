@@ -1,6 +1,8 @@
 //! The machine of the calls of readers and inserters, and of those by handle.
 ghost use Rattle.std.specs.Prelude.{◌≡◌, ◌<◌, length};
 ghost use Rattle.text_words.specs.Words.{words_of};
+ghost use Rattle.table_shape.specs.Shape.{IsSound};
+ghost use Rattle.call_machine.specs.declared.step.Plan.TheVariants as plan;
 ghost use Rattle.call_machine.specs.Begin as begin;
 ghost use Rattle.call_machine.specs.Begin.{begins, begun_split, begun_walk, begun_change, begun_read};
 ghost use Rattle.call_machine.specs.Calls as calls;
@@ -15,17 +17,17 @@ ghost use Rattle.call_machine.specs.SoundCall.{IsHandle, IsSoundCaller, IsSoundC
 
 use crate::call::Answer;
 use crate::counts::{handle_at, holds_of, is_live};
-use crate::find::{find_next, find_plan, find_walk};
-use crate::handle::{count_found, handle_plan, lost_answer, made_answer};
-use crate::leave::{leave_plan, leaves_with, loses_with, tries_again};
-use crate::node::{compares_from, end_of, met, node_plan, passes};
-use crate::read::{read_plan, reads_from};
+use crate::find::{find_next, find_walk, find_want};
+use crate::handle::{count_found, handle_want, lost_answer, made_answer};
+use crate::leave::{leave_want, leaves_with, loses_with, tries_again};
+use crate::node::{compares_from, end_of, met, node_want, passes};
+use crate::read::{read_want, reads_from};
 use crate::sought::Sought;
 use crate::stage::{
     CallStage, Caller, Change, DrawStage, FindStage, Goal, HandleStage, LeaveStage, NodeStage,
     ReadStage, Then, Walk,
 };
-use crate::step::{Plan, StepKind, Want, add, load};
+use crate::step::{StepKind, Want, add, load};
 use intern_log::{Handle, Kind};
 use marked_word::{first_of, node_of};
 use std::marker::Model;
@@ -86,12 +88,13 @@ fn too_long(goal: Goal) -> Answer
 
 /// How a split draws a number.
 #[inline(always)]
-fn draw_plan(stage: DrawStage) -> Plan
-    ensures value { result ≡ calls.draw_plan stage }
+fn draw_want(shape: &Shape, stage: DrawStage) -> Want
+    requires table { IsSound shape.now }
+    ensures value { result ≡ want_of shape.now (calls.draw_plan stage) }
 {
     match stage {
-        DrawStage::Load => load(StepKind::K1, Place::Draws),
-        DrawStage::Add => add(StepKind::K1, Place::Draws, 1),
+        DrawStage::Load => load(shape, StepKind::K1, Place::Draws),
+        DrawStage::Add => add(shape, StepKind::K1, Place::Draws, 1),
     }
 }
 
@@ -195,12 +198,16 @@ impl<'t> CallMachine<'t> {
         ensures value { result ≡ want_of self.now.shape (calls.plan_of self.now) }
         ensures sound { IsSoundCall self.now }
     {
-        match self.plan() {
-            Plan::Answered(answer) => Want::Answered(answer),
-            Plan::Step(step) => Want::Do {
-                op: step.op(&self.shape),
-                kind: step.kind,
-            },
+        let shape = &self.shape;
+        match self.stage {
+            CallStage::Answered(answer) => Want::Answered(answer),
+            CallStage::Draw(stage) => draw_want(shape, stage),
+            CallStage::Find(stage) => find_want(shape, self.number, &self.walk, stage),
+            CallStage::Node(stage) => node_want(shape, stage),
+            CallStage::Enter(stage) => self.enter_want(stage),
+            CallStage::Leave(stage) => leave_want(shape, self.number, stage),
+            CallStage::Handle(stage) => handle_want(shape, self.handle, stage),
+            CallStage::Read(stage) => read_want(shape, self.number, self.handle, stage),
         }
     }
 
@@ -209,12 +216,11 @@ impl<'t> CallMachine<'t> {
     pub fn finish(self) -> (u32, Answer)
         requires answered { (answer : Answer) × (self.stage ≡ CallStage.Answered answer) }
         ensures cursor { result.0 ≡ self.entry.cursor }
-        ensures answer { calls.plan_of self.entry ≡ Plan.Answered result.1 }
+        ensures answer { calls.plan_of self.entry ≡ plan.Answered result.1 }
     {
-        let cursor = self.cursor;
-        match self.plan() {
-            Plan::Answered(answer) => (cursor, answer),
-            Plan::Step(_) => unreachable!(),
+        match self.stage {
+            CallStage::Answered(answer) => (self.cursor, answer),
+            _ => unreachable!(),
         }
     }
 
@@ -237,23 +243,6 @@ impl<'t> CallMachine<'t> {
         ensures value { result ≡ self.now.walk.passed }
     {
         self.walk.passed
-    }
-
-    /// What comes next: a step, or nothing any more.
-    #[inline(always)]
-    pub fn plan(&self) -> Plan
-        ensures value { result ≡ calls.plan_of self.now }
-    {
-        match self.stage {
-            CallStage::Answered(answer) => Plan::Answered(answer),
-            CallStage::Draw(stage) => draw_plan(stage),
-            CallStage::Find(stage) => find_plan(self.number, &self.walk, stage),
-            CallStage::Node(stage) => node_plan(stage),
-            CallStage::Enter(stage) => self.enter_plan(stage),
-            CallStage::Leave(stage) => leave_plan(self.number, stage),
-            CallStage::Handle(stage) => handle_plan(self.handle, stage),
-            CallStage::Read(stage) => read_plan(self.number, self.handle, stage),
-        }
     }
 
     /// At a node, or at the end of the chain of this head.

@@ -3,29 +3,32 @@ ghost use Rattle.std.specs.Prelude.{◌≡◌, ◌<◌, ◌≤◌};
 ghost use Rattle.table_shape.specs.declared.shape.Shape.{Shape};
 ghost use Rattle.table_shape.specs.Shape.{IsSound};
 ghost use Rattle.call_machine.specs.Find as find;
+ghost use Rattle.call_machine.specs.Steps.{want_of, IsPlanInside};
 ghost use Rattle.call_machine.specs.SoundCall.{IsSoundFind, FitsFind};
 
 use crate::stage::{FindStage, Walk};
-use crate::step::{Plan, StepKind, load, store};
+use crate::step::{StepKind, Want, load, store};
 use marked_word::is_redirected;
-use table_shape::Place;
+use table_shape::{Place, Shape};
 
 /// The step of a stage.
 #[inline(always)]
-pub(crate) fn find_plan(number: u32, walk: &Walk, stage: FindStage) -> Plan
-    requires sound { (shape : Shape) × IsSoundFind shape walk.now stage }
-    ensures value { result ≡ find.find_plan number walk.now stage }
+pub(crate) fn find_want(shape: &Shape, number: u32, walk: &Walk, stage: FindStage) -> Want
+    requires table { IsSound shape.now }
+    requires sound { IsSoundFind shape.now walk.now stage }
+    requires inside { IsPlanInside shape.now (find.find_plan number walk.now stage) }
+    ensures value { result ≡ want_of shape.now (find.find_plan number walk.now stage) }
 {
     let Walk { row, bucket, .. } = *walk;
     match stage {
-        FindStage::LoadCounter => load(StepKind::K9, Place::Counter),
+        FindStage::LoadCounter => load(shape, StepKind::K9, Place::Counter),
         FindStage::OpenSection { counter } => {
-            store(StepKind::K10, Place::Section(number), counter + 1)
+            store(shape, StepKind::K10, Place::Section(number), counter + 1)
         }
-        FindStage::LoadLevel => load(StepKind::K19, Place::Level),
-        FindStage::LoadHead => load(StepKind::K5, Place::Head { row, bucket }),
-        FindStage::LoadNewLevel => load(StepKind::K20, Place::NewLevel),
-        FindStage::LoadNewHead => load(StepKind::K5, Place::Head { row, bucket }),
+        FindStage::LoadLevel => load(shape, StepKind::K19, Place::Level),
+        FindStage::LoadHead => load(shape, StepKind::K5, Place::Head { row, bucket }),
+        FindStage::LoadNewLevel => load(shape, StepKind::K20, Place::NewLevel),
+        FindStage::LoadNewHead => load(shape, StepKind::K5, Place::Head { row, bucket }),
     }
 }
 

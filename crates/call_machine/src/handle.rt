@@ -1,26 +1,30 @@
 //! The calls by handle: a drop, a permanence, a kill.
 ghost use Rattle.std.specs.Prelude.{◌≡◌};
+ghost use Rattle.table_shape.specs.Shape.{IsSound};
 ghost use Rattle.call_machine.specs.Handles as handles;
+ghost use Rattle.call_machine.specs.Steps.{want_of, IsPlanInside};
 ghost use Rattle.call_machine.specs.SoundCall.{IsChangeable, IsSoundHandle};
 
 use crate::call::Answer;
 use crate::counts::{changed, holds_of, is_live};
 use crate::stage::{CallStage, Change, HandleStage};
-use crate::step::{Plan, StepKind, exchange, load};
+use crate::step::{StepKind, Want, exchange, load};
 use intern_log::{Handle, PERMANENT};
-use table_shape::Place;
+use table_shape::{Place, Shape};
 
 /// The step of a stage.
 #[inline(always)]
-pub(crate) fn handle_plan(handle: Handle, stage: HandleStage) -> Plan
+pub(crate) fn handle_want(shape: &Shape, handle: Handle, stage: HandleStage) -> Want
+    requires table { IsSound shape.now }
     requires sound { IsSoundHandle stage }
-    ensures value { result ≡ handles.handle_plan handle stage }
+    requires inside { IsPlanInside shape.now (handles.handle_plan handle stage) }
+    ensures value { result ≡ want_of shape.now (handles.handle_plan handle stage) }
 {
     let place = Place::Count(handle.slot);
     match stage {
-        HandleStage::Count { .. } => load(StepKind::K6, place),
+        HandleStage::Count { .. } => load(shape, StepKind::K6, place),
         HandleStage::Exchange { change, count } => {
-            exchange(StepKind::K8, place, count, changed(change, count))
+            exchange(shape, StepKind::K8, place, count, changed(change, count))
         }
     }
 }

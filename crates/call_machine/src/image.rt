@@ -1,6 +1,8 @@
 //! The words of a table for tests, and what the operations of calls do to them.
+use crate::expect::{holds, same};
 use crate::step::Op;
 use std::alloc::{AllocError, Global};
+use std::process::Abort;
 
 /// The words of a table, and the same without the changes that no line of a scene has told.
 #[derive(Drop)]
@@ -55,5 +57,16 @@ impl Image {
             Op::Exchange { old, new, .. } => { if found == old { new } else { found } }
         };
         replace(&mut self.words, at, next)
+    }
+
+    /// Fails unless the word was changed to this one, which is told from now on.
+    pub(crate) fn leaves(&mut self, rt: &impl Abort, place: usize, word: u64, at: usize) {
+        same(rt, self.words.get(place).copied(), Some(word), at);
+        holds(rt, replace(&mut self.told, place, word) != word, at);
+    }
+
+    /// Fails unless each word is as the lines have told.
+    pub(crate) fn is_told(&self, rt: &impl Abort, at: usize) {
+        same(rt, self.words.as_slice(), self.told.as_slice(), at);
     }
 }

@@ -7,8 +7,8 @@
 //!
 //! A reader opens its section before it loads a head, and closes it once it has left the chain. An
 //! inserter walks the chain first, writes a slot that it alone has claimed, and puts it at the head by
-//! an exchange, so that no reader sees half an entry. A count changes by an exchange alone, and one
-//! that is 0 never rises again. A work takes dead nodes out of a bucket that it has locked, waits
+//! an exchange, so that no reader sees half an entry. The count of an entry changes by an exchange
+//! alone, and once it is 0 it never rises again. A work takes dead nodes out of a bucket that it has locked, waits
 //! until each section has closed that was open then, and only then frees their slots. A grow unzips
 //! each chain into two, node by node with a grace behind each move, and a shrink joins two chains.
 //!
@@ -26,9 +26,12 @@ pub mod begin;
 pub mod call;
 pub mod call_laws;
 pub mod caller;
+pub mod claim_laws;
 pub mod count_laws;
 mod counts;
 mod enter;
+#[cfg(test)]
+mod expect;
 mod find;
 mod handle;
 #[cfg(test)]
@@ -48,7 +51,10 @@ pub mod step;
 pub mod step_laws;
 pub mod sweep;
 mod told;
+pub mod whole_end_laws;
 pub mod whole_laws;
+pub mod whole_resize_laws;
+pub mod whole_work_laws;
 pub mod work;
 pub mod work_laws;
 mod works;

@@ -1,7 +1,9 @@
 //! The machine of any call of a table.
 ghost use Rattle.std.specs.Prelude.{◌≡◌, ◌≢◌, ◌<◌, ℕ, IsNone, IsSome};
 ghost use Rattle.table_shape.specs.Shape.{IsSound};
+ghost use Rattle.call_machine.specs.declared.step.Plan.TheVariants as plan;
 ghost use Rattle.call_machine.specs.Machines as machines;
+ghost use Rattle.call_machine.specs.MachineParts.{IsSoundMachine};
 ghost use Rattle.call_machine.specs.SoundMachine.{IsSoundOwn, HasHandle, MayStart, FitsMachine};
 
 use crate::begin::{BeginMachine, BeginStage};
@@ -9,7 +11,7 @@ use crate::call::{Answer, Call};
 use crate::caller::CallMachine;
 use crate::poll::PollMachine;
 use crate::stage::{Caller, Change, Goal};
-use crate::step::{Plan, Want};
+use crate::step::Want;
 use crate::sweep::SweepMachine;
 use crate::work::{Grace, Task, Work};
 use intern_log::Kind;
@@ -118,28 +120,17 @@ impl<'t> Machine<'t> {
         }
     }
 
-    /// What comes next: a step, or nothing any more.
-    fn plan(&self) -> Plan
-        ensures value { result ≡ machines.plan_of self.now }
-    {
-        match self {
-            Machine::Call { call, .. } => call.plan(),
-            Machine::Begin { begin } => begin.plan(),
-            Machine::Poll { poll } => poll.plan(),
-            Machine::Sweep { sweep } => sweep.plan(),
-        }
-    }
-
     /// What the seat has of its own once the call has answered, and the answer. A work or a grace that
-    /// has begun or is pending stands in it.
+    /// has begun or is pending stands in it. What a sound machine leaves may be handed to the seat's next call.
     pub fn finish(self) -> (Own, Answer)
-        requires answered { (answer : Answer) × (machines.plan_of self ≡ Plan.Answered answer) }
+        requires answered { (answer : Answer) × (machines.plan_of self ≡ plan.Answered answer) }
         ensures own { result.0 ≡ machines.own_of self.entry }
-        ensures answer { machines.plan_of self.entry ≡ Plan.Answered result.1 }
+        ensures sound { IsSoundMachine self.entry → IsSoundOwn (machines.shape_of self.entry) result.0 }
+        ensures answer { machines.plan_of self.entry ≡ plan.Answered result.1 }
     {
-        match self.plan() {
-            Plan::Answered(answer) => (self.into_own(), answer),
-            Plan::Step(_) => unreachable!(),
+        match self.want() {
+            Want::Answered(answer) => (self.into_own(), answer),
+            Want::Do { .. } => unreachable!(),
         }
     }
 

@@ -1,4 +1,5 @@
-//! Laws of the machine of any call: of which kinds its steps are, which events they have, and that it stays sound.
+//! Laws of the machine of any call: of which kinds its steps are, which events they have, that it stays sound,
+//! and that what it leaves its seat is sound.
 //! Each function does nothing: its contract is the law.
 ghost use Rattle.std.specs.Prelude.{◌≡◌, ℕ, ◌<◌, ◌^◌, [], Some};
 ghost use Rattle.intern_log.specs.declared.event.Kind.{Kind};
@@ -12,7 +13,7 @@ ghost use Rattle.call_machine.specs.declared.machine.Own.{Own};
 ghost use Rattle.call_machine.specs.declared.step.Plan.TheVariants as plan;
 ghost use Rattle.call_machine.specs.declared.step.Step.{Step};
 ghost use Rattle.call_machine.specs.Kinds.{IsOfKind, IsByItsSeat, IsEventOf, IsMadeBy, HasItsEvent};
-ghost use Rattle.call_machine.specs.Machines.{started, plan_of, got_of, event_of, shape_of};
+ghost use Rattle.call_machine.specs.Machines.{started, plan_of, got_of, event_of, own_of, shape_of};
 ghost use Rattle.call_machine.specs.MachineParts.{IsOfWork, IsSameMachine, IsSoundMachine, number_of};
 ghost use Rattle.call_machine.specs.SoundMachine.{IsSoundOwn, HasHandle, MayStart, FitsMachine};
 ghost use Rattle.call_machine.specs.Visible.{visible_of};
@@ -39,8 +40,9 @@ pub fn events_of_machines_are_made_by_their_step()
     ensures law { (m : Machine) (word : ℕ) (step : Step) (e : What) → plan_of m ≡ plan.Step step → event_of m word ≡ Some e → IsMadeBy step.deed word e }
 {}
 
-/// An exchange that is not lost has an event, a claim of a free slot has one, and so has each step that gives a slot back
-/// or opens or closes a section.
+/// An exchange that is not lost has an event, a claim of a free slot has one, and so has each step that gives a slot or the
+/// resize lock back, opens or closes a section, begins a grace, unlocks a bucket, unlinks a slot, stores a locked head
+/// of the new row or stores the level.
 pub fn steps_of_machines_have_their_event()
     ensures law { (m : Machine) (word : ℕ) (step : Step) → plan_of m ≡ plan.Step step → HasItsEvent step word (event_of m word) }
 {}
@@ -54,6 +56,11 @@ pub fn calls_that_may_start_begin_sound()
 /// A sound machine stays sound by each word that it may be told.
 pub fn got_keeps_a_machine_sound()
     ensures law { (m : Machine) (word : ℕ) → word < 2 ^ 64 → IsSoundMachine m → FitsMachine m word → IsSoundMachine (got_of m word) }
+{}
+
+/// What a sound machine leaves its seat is sound.
+pub fn what_a_machine_leaves_is_sound()
+    ensures law { (m : Machine) → IsSoundMachine m → IsSoundOwn (shape_of m) (own_of m) }
 {}
 
 /// A step leaves whose call it is, and a try call what its seat has unfinished.
@@ -79,6 +86,7 @@ mod tests {
         steps_of_machines_have_their_event();
         calls_that_may_start_begin_sound();
         got_keeps_a_machine_sound();
+        what_a_machine_leaves_is_sound();
         got_leaves_whose_machine_it_is();
         works_have_no_visible_event();
     }

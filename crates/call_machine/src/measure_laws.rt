@@ -30,7 +30,8 @@ pub fn calls_go_on_until_they_answer()
     ensures law { (c : Calling) → IsSoundCall c → ((a : Answer) × (plan_of c ≡ plan.Answered a)) ⊎ ((word : ℕ) × (word < 2 ^ 64) × FitsCall c word) }
 {}
 
-/// So a call that does not try again answers after `16 + text_words + slots * (4 + text_words)` steps at most.
+/// So a call that does not try again, and passes no more nodes than the table has slots, answers after
+/// `16 + text_words + slots * (4 + text_words)` steps at most.
 pub fn calls_answer_in_time()
     ensures law { AtEachSoundBeginning (λ c. IsTry c.goal → (words : List ℕ) → IsRun c words → length words ≤ most_steps c.shape) }
 {}

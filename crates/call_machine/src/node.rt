@@ -1,29 +1,41 @@
 //! Passing the nodes of a chain.
 ghost use Rattle.std.specs.Prelude.{◌≡◌};
+ghost use Rattle.table_shape.specs.Shape.{IsSound};
 ghost use Rattle.call_machine.specs.Nodes as nodes;
+ghost use Rattle.call_machine.specs.Steps.{want_of, IsPlanInside};
 
 use crate::call::Answer;
 use crate::counts::raised;
 use crate::enter::{enters, has_word};
 use crate::leave::{leaves_with, tries_again};
 use crate::stage::{CallStage, Goal, NodeStage, Walk};
-use crate::step::{Plan, StepKind, exchange, load};
+use crate::step::{StepKind, Want, exchange, load};
 use intern_log::{Handle, Kind};
 use marked_word::is_locked;
-use table_shape::Place;
+use table_shape::{Place, Shape};
 
 /// The step of a stage.
 #[inline(always)]
-pub(crate) fn node_plan(stage: NodeStage) -> Plan
-    ensures value { result ≡ nodes.node_plan stage }
+pub(crate) fn node_want(shape: &Shape, stage: NodeStage) -> Want
+    requires table { IsSound shape.now }
+    requires inside { IsPlanInside shape.now (nodes.node_plan stage) }
+    ensures value { result ≡ want_of shape.now (nodes.node_plan stage) }
 {
     match stage {
-        NodeStage::Meta { node } => load(StepKind::K6, Place::Meta(node)),
-        NodeStage::Text { node, at } => load(StepKind::K6, Place::Text { slot: node, at }),
-        NodeStage::Count { node } => load(StepKind::K6, Place::Count(node)),
-        NodeStage::Link { node } => load(StepKind::K6, Place::Link(node)),
+        NodeStage::Meta { node } => load(shape, StepKind::K6, Place::Meta(node)),
+        NodeStage::Text { node, at } => {
+            load(shape, StepKind::K6, Place::Text { slot: node, at })
+        }
+        NodeStage::Count { node } => load(shape, StepKind::K6, Place::Count(node)),
+        NodeStage::Link { node } => load(shape, StepKind::K6, Place::Link(node)),
         NodeStage::Take { node, count } => {
-            exchange(StepKind::K8, Place::Count(node), count, raised(count))
+            exchange(
+                shape,
+                StepKind::K8,
+                Place::Count(node),
+                count,
+                raised(count),
+            )
         }
     }
 }

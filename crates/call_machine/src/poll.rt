@@ -9,7 +9,7 @@ ghost use Rattle.call_machine.specs.SoundCall.{IsSoundCaller, IsLevel};
 
 use crate::call::{Answer, Worked};
 use crate::stage::Caller;
-use crate::step::{Plan, Want};
+use crate::step::Want;
 use crate::work::{GraceStage, LAST_GRACE, Progress, Task, Work, WorkStage};
 use std::marker::Model;
 
@@ -103,27 +103,14 @@ impl PollMachine {
         }
     }
 
-    /// What comes next: a step, or nothing any more.
-    pub fn plan(&self) -> Plan
-        ensures value { result ≡ polls.poll_plan self.now }
-    {
-        match self.answer {
-            None => self.work.plan(),
-            Some(answer) => Plan::Answered(answer),
-        }
-    }
-
     /// What the call wants: its next step, or nothing any more.
     pub fn want(&self) -> Want
         ensures value { result ≡ want_of self.now.caller.shape (polls.poll_plan self.now) }
         ensures sound { IsSoundPoll self.now }
     {
-        match self.plan() {
-            Plan::Answered(answer) => Want::Answered(answer),
-            Plan::Step(step) => Want::Do {
-                op: step.op(&self.caller.shape),
-                kind: step.kind,
-            },
+        match self.answer {
+            None => self.work.want(&self.caller.shape),
+            Some(answer) => Want::Answered(answer),
         }
     }
 

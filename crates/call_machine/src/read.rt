@@ -1,32 +1,35 @@
 //! Reading the text of a handle.
 ghost use Rattle.std.specs.Prelude.{◌≡◌};
-ghost use Rattle.table_shape.specs.declared.shape.Shape.{Shape};
+ghost use Rattle.table_shape.specs.Shape.{IsSound};
 ghost use Rattle.call_machine.specs.Reads as reads;
+ghost use Rattle.call_machine.specs.Steps.{want_of, IsPlanInside};
 ghost use Rattle.call_machine.specs.SoundCall.{IsSoundRead};
 
 use crate::call::Answer;
 use crate::leave::leaves_with;
 use crate::stage::{CallStage, ReadStage};
-use crate::step::{Plan, StepKind, load, store};
+use crate::step::{StepKind, Want, load, store};
 use intern_log::{Handle, Kind};
-use table_shape::Place;
+use table_shape::{Place, Shape};
 use text_words::words_of;
 
 /// The step of a stage, by a seat's number.
 #[inline(always)]
-pub(crate) fn read_plan(number: u32, handle: Handle, stage: ReadStage) -> Plan
-    requires sound { (shape : Shape) × IsSoundRead shape stage }
-    ensures value { result ≡ reads.read_plan number handle stage }
+pub(crate) fn read_want(shape: &Shape, number: u32, handle: Handle, stage: ReadStage) -> Want
+    requires table { IsSound shape.now }
+    requires sound { IsSoundRead shape.now stage }
+    requires inside { IsPlanInside shape.now (reads.read_plan number handle stage) }
+    ensures value { result ≡ want_of shape.now (reads.read_plan number handle stage) }
 {
     let slot = handle.slot;
     match stage {
-        ReadStage::LoadCounter => load(StepKind::K9, Place::Counter),
+        ReadStage::LoadCounter => load(shape, StepKind::K9, Place::Counter),
         ReadStage::OpenSection { counter } => {
-            store(StepKind::K10, Place::Section(number), counter + 1)
+            store(shape, StepKind::K10, Place::Section(number), counter + 1)
         }
-        ReadStage::Count => load(StepKind::K6, Place::Count(slot)),
-        ReadStage::Meta => load(StepKind::K6, Place::Meta(slot)),
-        ReadStage::Text { at, .. } => load(StepKind::K6, Place::Text { slot, at }),
+        ReadStage::Count => load(shape, StepKind::K6, Place::Count(slot)),
+        ReadStage::Meta => load(shape, StepKind::K6, Place::Meta(slot)),
+        ReadStage::Text { at, .. } => load(shape, StepKind::K6, Place::Text { slot, at }),
     }
 }
 

@@ -2,7 +2,8 @@
 ghost use Rattle.std.specs.Prelude.{◌≡◌};
 ghost use Rattle.table_shape.specs.Shape.{IsSound};
 ghost use Rattle.table_shape.specs.Place.{IsInside};
-ghost use Rattle.call_machine.specs.Steps.{op_at};
+ghost use Rattle.call_machine.specs.Steps as steps;
+ghost use Rattle.call_machine.specs.Steps.{op_at, want_of};
 
 use crate::call::Answer;
 use table_shape::{Place, Shape};
@@ -99,8 +100,7 @@ pub enum Want {
     Answered(Answer),
 }
 
-/// What comes next in a call.
-#[derive(Clone, Copy)]
+/// What contracts see of what comes next in a call. No value of it is made.
 pub enum Plan {
     Step(Step),
     Answered(Answer),
@@ -127,60 +127,80 @@ impl Step {
 
 /// A step that loads a word.
 #[inline(always)]
-pub(crate) fn load(kind: StepKind, place: Place) -> Plan
-    ensures value { result ≡ Plan.Step (record { kind = kind; place = place; deed = Deed.Load }) }
+pub(crate) fn load(shape: &Shape, kind: StepKind, place: Place) -> Want
+    requires sound { IsSound shape.now }
+    requires inside { IsInside shape.now place }
+    ensures value { result ≡ want_of shape.now (steps.loads kind place) }
 {
-    Plan::Step(Step {
+    Want::Do {
+        op: Op::Load {
+            at: shape.index(place),
+        },
         kind,
-        place,
-        deed: Deed::Load,
-    })
+    }
 }
 
 /// A step that stores a word.
 #[inline(always)]
-pub(crate) fn store(kind: StepKind, place: Place, value: u64) -> Plan
-    ensures value { result ≡ Plan.Step (record { kind = kind; place = place; deed = Deed.Store value }) }
+pub(crate) fn store(shape: &Shape, kind: StepKind, place: Place, value: u64) -> Want
+    requires sound { IsSound shape.now }
+    requires inside { IsInside shape.now place }
+    ensures value { result ≡ want_of shape.now (steps.stores kind place value) }
 {
-    Plan::Step(Step {
+    Want::Do {
+        op: Op::Store {
+            at: shape.index(place),
+            value,
+        },
         kind,
-        place,
-        deed: Deed::Store(value),
-    })
+    }
 }
 
 /// A step that exchanges a word, if it is the one that was loaded.
 #[inline(always)]
-pub(crate) fn exchange(kind: StepKind, place: Place, old: u64, new: u64) -> Plan
-    ensures value { result ≡ Plan.Step (record { kind = kind; place = place; deed = Deed.Exchange old new }) }
+pub(crate) fn exchange(shape: &Shape, kind: StepKind, place: Place, old: u64, new: u64) -> Want
+    requires sound { IsSound shape.now }
+    requires inside { IsInside shape.now place }
+    ensures value { result ≡ want_of shape.now (steps.exchanges kind place old new) }
 {
-    Plan::Step(Step {
+    Want::Do {
+        op: Op::Exchange {
+            at: shape.index(place),
+            old,
+            new,
+        },
         kind,
-        place,
-        deed: Deed::Exchange { old, new },
-    })
+    }
 }
 
 /// A step that swaps the value into a word.
 #[inline(always)]
-pub(crate) fn swap(kind: StepKind, place: Place, value: u64) -> Plan
-    ensures value { result ≡ Plan.Step (record { kind = kind; place = place; deed = Deed.Swap value }) }
+pub(crate) fn swap(shape: &Shape, kind: StepKind, place: Place, value: u64) -> Want
+    requires sound { IsSound shape.now }
+    requires inside { IsInside shape.now place }
+    ensures value { result ≡ want_of shape.now (steps.swaps kind place value) }
 {
-    Plan::Step(Step {
+    Want::Do {
+        op: Op::Swap {
+            at: shape.index(place),
+            value,
+        },
         kind,
-        place,
-        deed: Deed::Swap(value),
-    })
+    }
 }
 
 /// A step that adds to a word.
 #[inline(always)]
-pub(crate) fn add(kind: StepKind, place: Place, value: u64) -> Plan
-    ensures value { result ≡ Plan.Step (record { kind = kind; place = place; deed = Deed.Add value }) }
+pub(crate) fn add(shape: &Shape, kind: StepKind, place: Place, value: u64) -> Want
+    requires sound { IsSound shape.now }
+    requires inside { IsInside shape.now place }
+    ensures value { result ≡ want_of shape.now (steps.adds kind place value) }
 {
-    Plan::Step(Step {
+    Want::Do {
+        op: Op::Add {
+            at: shape.index(place),
+            value,
+        },
         kind,
-        place,
-        deed: Deed::Add(value),
-    })
+    }
 }

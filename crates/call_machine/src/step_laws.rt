@@ -35,8 +35,8 @@ pub fn events_are_made_by_their_step()
         IsMadeBy step.deed word e }
 {}
 
-/// An exchange that is not lost has an event, a claim of a free slot has one, and so has each step that gives a slot back
-/// or opens or closes a section.
+/// An exchange that is not lost has an event, a claim of a free slot has one, and so has each step of a kind that always has
+/// one: of a call those that give a slot back or open or close a section.
 pub fn steps_have_their_event()
     ensures law { (c : Calling) (word : ℕ) (step : Step) → plan_of c ≡ plan.Step step → HasItsEvent step word (event_of c word) }
 {}

@@ -8,10 +8,10 @@ ghost use Rattle.call_machine.specs.SoundCall.{IsSoundCaller, IsSoundFind, IsInC
 
 use crate::begin::SPENT;
 use crate::call::Answer;
-use crate::find::{find_next, find_plan, find_walk};
+use crate::find::{find_next, find_walk, find_want};
 use crate::poll::{PollMachine, Polling};
 use crate::stage::{Caller, FindStage, Walk};
-use crate::step::{Plan, StepKind, Want, exchange, load, store};
+use crate::step::{StepKind, Want, exchange, load, store};
 use marked_word::{first_of, is_locked};
 use std::marker::Model;
 use table_shape::Place;
@@ -80,11 +80,13 @@ impl SweepMachine {
         }
     }
 
-    /// What comes next: a step, or nothing any more.
-    pub fn plan(&self) -> Plan
-        ensures value { result ≡ sweeps.sweep_plan self.now }
+    /// What the call wants: its next step, or nothing any more.
+    pub fn want(&self) -> Want
+        ensures value { result ≡ want_of self.now.poll.caller.shape (sweeps.sweep_plan self.now) }
+        ensures sound { IsSoundSweep self.now }
     {
-        let number = self.poll.caller().number;
+        let Caller { number, shape, .. } = self.poll.caller();
+        let shape = &shape;
         let Walk {
             row,
             bucket,
@@ -92,32 +94,22 @@ impl SweepMachine {
             ..
         } = self.walk;
         match self.stage {
-            SweepStage::Check => load(StepKind::K9, Place::Counter),
-            SweepStage::Find(stage) => find_plan(number, &self.walk, stage),
+            SweepStage::Check => load(shape, StepKind::K9, Place::Counter),
+            SweepStage::Find(stage) => find_want(shape, number, &self.walk, stage),
             SweepStage::SetLock => {
-                exchange(StepKind::K14, Place::Head { row, bucket }, head, head + 1)
+                exchange(
+                    shape,
+                    StepKind::K14,
+                    Place::Head { row, bucket },
+                    head,
+                    head + 1,
+                )
             }
-            SweepStage::Retry | SweepStage::Enter => store(
-                StepKind::K11,
-                Place::Section(number),
-                0,
-            ),
-            SweepStage::Bucket => self.poll.plan(),
-            SweepStage::Spent { counter } => Plan::Answered(Answer::Spent { counter }),
-        }
-    }
-
-    /// What the call wants: its next step, or nothing any more.
-    pub fn want(&self) -> Want
-        ensures value { result ≡ want_of self.now.poll.caller.shape (sweeps.sweep_plan self.now) }
-        ensures sound { IsSoundSweep self.now }
-    {
-        match self.plan() {
-            Plan::Answered(answer) => Want::Answered(answer),
-            Plan::Step(step) => Want::Do {
-                op: step.op(&self.poll.caller().shape),
-                kind: step.kind,
-            },
+            SweepStage::Retry | SweepStage::Enter => {
+                store(shape, StepKind::K11, Place::Section(number), 0)
+            }
+            SweepStage::Bucket => self.poll.want(),
+            SweepStage::Spent { counter } => Want::Answered(Answer::Spent { counter }),
         }
     }
 

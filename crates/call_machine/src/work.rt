@@ -4,7 +4,7 @@ use arrayvec::ArrayVec;
 /// How many unlinked slots a work keeps at most before it frees them.
 pub const BATCH: usize = 256;
 
-/// The value of the grace counter from which on a work begins no further grace.
+/// Where its last grace raised the counter to this value or more, a work begins no further one.
 pub const LAST_GRACE: u64 = 1 << 63;
 
 /// What a work is for.
@@ -172,7 +172,7 @@ pub enum Progress {
 #[derive(Debug, Drop)]
 pub struct Work {
     pub(crate) task: Task,
-    /// The level at the beginning; of a sweep the row of its bucket.
+    /// The level at the beginning, which a clean loads first; of a sweep the row of its bucket.
     pub(crate) level: u8,
     /// The present bucket; of a pair the lower one.
     pub(crate) bucket: u32,

@@ -60,12 +60,13 @@ pub fn inside_by_a_step_of_a_sweep()
         is_inside_sweeping (sweep_got s word).stage ≡ is_inside_after (sweep_event s word) (is_inside_sweeping s.stage) }
 {}
 
-/// A clean or a sweep locks a bucket where it has none locked, and unlocks the one that it has.
+/// A clean locks a bucket where it has none locked, and unlocks the one that it has; a sweep, which locks its bucket before its
+/// work begins, unlocks it.
 pub fn buckets_are_locked_one_at_a_time()
     ensures law { (p : Polling) (word : ℕ) → IsSoundPoll p → Unlinks p.work.task → IsLockedInTurn (poll_event p word) (locked_bucket p) }
 {}
 
-/// It has the bucket locked from a Lock on, none from an Unlock on, and any other step leaves what it has.
+/// Such a work has the bucket locked from a Lock on, none from an Unlock on, and any other step leaves what it has.
 pub fn locked_bucket_by_a_step()
     ensures law { (p : Polling) (word : ℕ) → IsSoundPoll p → FitsPoll p word → Unlinks p.work.task →
         locked_bucket (poll_got p word) ≡ locked_after (poll_event p word) (locked_bucket p) }
@@ -77,7 +78,7 @@ pub fn levels_are_stored_by_resizes()
 {}
 
 /// The Lock of a grow adds its head to those that are locked, an Unlock takes its head away, and no other step changes which are
-/// locked; at the end those of the row that is left are.
+/// locked.
 pub fn heads_locked_by_a_grow()
     ensures law { (p : Polling) (word : ℕ) → IsSoundPoll p → FitsPoll p word → p.work.task ≡ Grow →
         IsLockChange (poll_event p word) (grow_locked p.work) (grow_locked (poll_got p word).work) }

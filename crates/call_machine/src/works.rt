@@ -1,11 +1,12 @@
 //! The works of a table, step by step.
 ghost use Rattle.std.specs.Prelude.{◌≡◌, ℕ};
 ghost use Rattle.table_shape.specs.declared.shape.Shape.{Shape};
+ghost use Rattle.call_machine.specs.Steps.{want_of, IsPlanInside};
 ghost use Rattle.call_machine.specs.Works as works;
 ghost use Rattle.call_machine.specs.WorkParts as parts;
 ghost use Rattle.call_machine.specs.SoundWork.{IsSoundWork, FitsStart, FitsWork};
 
-use crate::step::{Plan, StepKind, load, store};
+use crate::step::{StepKind, Want, load, store};
 use crate::work::{
     AfterGrace, BATCH, Chains, EndStage, LockStage, Progress, Side, StartStage, Task, Work,
     WorkStage,
@@ -64,54 +65,56 @@ impl Work {
         end_level(self.task, self.level)
     }
 
-    /// What comes next.
-    pub(crate) fn plan(&self) -> Plan
-        requires sound { (shape : Shape) × IsSoundWork shape self.now }
-        ensures value { result ≡ works.work_plan self.now }
+    /// What the work wants: its next step.
+    pub(crate) fn want(&self, shape: &Shape) -> Want
+        requires sound { IsSoundWork shape.now self.now }
+        ensures value { result ≡ want_of shape.now (works.work_plan self.now) }
     {
         match self.stage {
-            WorkStage::Start(stage) => self.start_plan(stage),
-            WorkStage::Lock(stage) => self.lock_plan(stage),
-            WorkStage::Pass(stage) => self.pass_plan(stage),
-            WorkStage::Head(stage) => self.head_plan(stage),
-            WorkStage::Unzip(stage) => self.unzip_plan(stage),
-            WorkStage::Join(stage) => self.join_plan(stage),
+            WorkStage::Start(stage) => self.start_want(shape, stage),
+            WorkStage::Lock(stage) => self.lock_want(shape, stage),
+            WorkStage::Pass(stage) => self.pass_want(shape, stage),
+            WorkStage::Head(stage) => self.head_want(shape, stage),
+            WorkStage::Unzip(stage) => self.unzip_want(shape, stage),
+            WorkStage::Join(stage) => self.join_want(shape, stage),
             WorkStage::Unlock { side } => {
                 let word = plain_head(self.made_first(side));
-                store(StepKind::K15, self.new_head(side), word)
+                store(shape, StepKind::K15, self.new_head(side), word)
             }
-            WorkStage::Grace(stage) => grace::grace_plan(stage),
-            WorkStage::Free(stage) => self.free_plan(stage),
-            WorkStage::End(stage) => self.end_plan(stage),
+            WorkStage::Grace(stage) => grace::grace_want(shape, stage),
+            WorkStage::Free(stage) => self.free_want(shape, stage),
+            WorkStage::End(stage) => self.end_want(shape, stage),
         }
     }
 
     /// How a work begins.
-    fn start_plan(&self, stage: StartStage) -> Plan
-        requires sound { (shape : Shape) × IsSoundWork shape self.now }
-        ensures value { result ≡ works.start_plan self.now stage }
+    fn start_want(&self, shape: &Shape, stage: StartStage) -> Want
+        requires sound { IsSoundWork shape.now self.now }
+        requires inside { IsPlanInside shape.now (works.start_plan self.now stage) }
+        ensures value { result ≡ want_of shape.now (works.start_plan self.now stage) }
     {
         match stage {
-            StartStage::LoadLevel => load(StepKind::K19, Place::Level),
+            StartStage::LoadLevel => load(shape, StepKind::K19, Place::Level),
             StartStage::StoreNewLevel => {
                 let level = u64::from(end_level(self.task, self.level));
-                store(StepKind::K22, Place::NewLevel, level + 1)
+                store(shape, StepKind::K22, Place::NewLevel, level + 1)
             }
         }
     }
 
     /// How a work ends.
-    fn end_plan(&self, stage: EndStage) -> Plan
-        requires sound { (shape : Shape) × IsSoundWork shape self.now }
-        ensures value { result ≡ works.end_plan self.now stage }
+    fn end_want(&self, shape: &Shape, stage: EndStage) -> Want
+        requires sound { IsSoundWork shape.now self.now }
+        requires inside { IsPlanInside shape.now (works.end_plan self.now stage) }
+        ensures value { result ≡ want_of shape.now (works.end_plan self.now stage) }
     {
         match stage {
             EndStage::StoreLevel => {
                 let level = u64::from(end_level(self.task, self.level));
-                store(StepKind::K25, Place::Level, level)
+                store(shape, StepKind::K25, Place::Level, level)
             }
-            EndStage::ClearNewLevel => store(StepKind::K22, Place::NewLevel, 0),
-            EndStage::GiveResize => store(StepKind::K18, Place::ResizeLock, 0),
+            EndStage::ClearNewLevel => store(shape, StepKind::K22, Place::NewLevel, 0),
+            EndStage::GiveResize => store(shape, StepKind::K18, Place::ResizeLock, 0),
         }
     }
 

@@ -36,6 +36,7 @@ pub enum Place {
 
 impl Shape {
     /// Where the slots begin.
+    #[inline(always)]
     fn slots_from(&self) -> u32
         requires sound { IsSound self.now }
         ensures value { result ≡ slots_from self.now }
@@ -44,6 +45,7 @@ impl Shape {
     }
 
     /// Where a slot begins.
+    #[inline(always)]
     fn slot_from(&self, slot: u32) -> u32
         requires sound { IsSound self.now }
         requires slot { slot < self.now.slots }
@@ -54,6 +56,7 @@ impl Shape {
     }
 
     /// Where the row of a level begins.
+    #[inline(always)]
     fn row_from(&self, row: u8) -> u32
         requires sound { IsSound self.now }
         requires row { (self.now.min_level ≤ row) × (row ≤ self.now.max_level) }
@@ -87,6 +90,7 @@ impl Shape {
     }
 
     /// The index of a word.
+    #[inline(always)]
     pub fn index(&self, place: Place) -> u32
         requires sound { IsSound self.now }
         requires inside { IsInside self.now place }

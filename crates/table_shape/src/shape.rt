@@ -46,15 +46,17 @@ pub const MAX_SEATS: u32 = 256;
 pub const MAX_WORDS: u64 = 1 << 27;
 
 /// How many buckets the row of a level has.
+#[inline(always)]
 pub(crate) fn row_len(level: u8) -> u32
     requires level { level ≤ 21 }
     ensures value { result ≡ 2 ^ level }
     ensures small { result ≤ 2 ^ 21 }
 {
-    2u32.pow(u32::from(level))
+    1u32 << level
 }
 
 /// How many heads the rows from level `from` up to but not with level `to` have together.
+#[inline(always)]
 pub(crate) fn heads(from: u8, to: u8) -> u32
     requires levels { (from ≤ to) × (to ≤ 21) }
     ensures value { result ≡ heads_of from (to - from) }

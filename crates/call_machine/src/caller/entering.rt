@@ -1,6 +1,7 @@
 //! Making an entry, step by step.
 ghost use Rattle.std.specs.Prelude.{◌≡◌, ◌<◌};
 ghost use Rattle.call_machine.specs.Enter as enter;
+ghost use Rattle.call_machine.specs.Steps.{want_of, IsPlanInside};
 ghost use Rattle.call_machine.specs.SoundCall.{IsHandle, IsInChain, IsSoundEnter};
 
 use crate::call::Answer;
@@ -9,7 +10,7 @@ use crate::counts::{handle_at, holds_word};
 use crate::enter::{after_link, head_before, lost_head, next_slot, puts_from};
 use crate::leave::{leaves_with, tries_again};
 use crate::stage::{CallStage, EnterStage, Goal, LeaveStage, Then, Walk};
-use crate::step::{Plan, StepKind, exchange, load, store, swap};
+use crate::step::{StepKind, Want, exchange, load, store, swap};
 use intern_log::Handle;
 use marked_word::{first_of, link_word};
 use table_shape::Place;
@@ -18,11 +19,13 @@ use text_words::word_at;
 impl<'t> CallMachine<'t> {
     /// How an entry is made.
     #[inline(always)]
-    pub(super) fn enter_plan(&self, stage: EnterStage) -> Plan
+    pub(super) fn enter_want(&self, stage: EnterStage) -> Want
         requires chain { IsInChain self.now.shape self.now.walk }
         requires sound { IsSoundEnter self.now.shape self.now.text stage }
-        ensures value { result ≡ enter.enter_plan self.now stage }
+        requires inside { IsPlanInside self.now.shape (enter.enter_plan self.now stage) }
+        ensures value { result ≡ want_of self.now.shape (enter.enter_plan self.now stage) }
     {
+        let shape = &self.shape;
         let Walk {
             row,
             bucket,
@@ -30,22 +33,33 @@ impl<'t> CallMachine<'t> {
             ..
         } = self.walk;
         match stage {
-            EnterStage::Claim { slot, .. } => swap(StepKind::K2, Place::Claim(slot), 1),
-            EnterStage::OwnCount { slot } => load(StepKind::K6, Place::Count(slot)),
+            EnterStage::Claim { slot, .. } => swap(shape, StepKind::K2, Place::Claim(slot), 1),
+            EnterStage::OwnCount { slot } => load(shape, StepKind::K6, Place::Count(slot)),
             EnterStage::PutMeta { handle } => {
-                store(StepKind::K3, Place::Meta(handle.slot), self.sought.meta)
+                store(
+                    shape,
+                    StepKind::K3,
+                    Place::Meta(handle.slot),
+                    self.sought.meta,
+                )
             }
             EnterStage::PutText { handle, at } => {
                 let slot = handle.slot;
                 let word = word_at(self.sought.text, at as usize);
-                store(StepKind::K3, Place::Text { slot, at }, word)
+                store(shape, StepKind::K3, Place::Text { slot, at }, word)
             }
             EnterStage::PutLink { handle } => {
                 let first = first_of(head);
-                store(StepKind::K3, Place::Link(handle.slot), link_word(first))
+                store(
+                    shape,
+                    StepKind::K3,
+                    Place::Link(handle.slot),
+                    link_word(first),
+                )
             }
             EnterStage::PutCount { handle } => {
                 store(
+                    shape,
                     StepKind::K3,
                     Place::Count(handle.slot),
                     holds_word(handle, 1),
@@ -53,13 +67,13 @@ impl<'t> CallMachine<'t> {
             }
             EnterStage::Create { handle } => {
                 let new = head_before(handle.slot);
-                exchange(StepKind::K7, Place::Head { row, bucket }, head, new)
+                exchange(shape, StepKind::K7, Place::Head { row, bucket }, head, new)
             }
         }
     }
 
-    /// What comes of a word that the making of an entry found.
-    #[inline(always)]
+    /// What comes of a word that the making of an entry found. It is not marked for inlining: with it `got`
+    /// would be too large to be inlined.
     pub(super) fn got_enter(&mut self, stage: EnterStage, word: u64)
         requires chain { IsInChain self.old.shape self.old.walk }
         requires sound { IsSoundEnter self.old.shape self.old.text stage }

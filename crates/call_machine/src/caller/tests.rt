@@ -1,10 +1,11 @@
 //! Each call step by step on a small table, its answers, and the words that it leaves changed.
 use super::*;
 use crate::call::Answer;
-use crate::image::{Image, replace};
+use crate::expect::{holds, same};
+use crate::image::Image;
 use crate::mark::Mark;
 use crate::step::{Deed, Step};
-use std::alloc::Global;
+use std::alloc::{AllocError, Global};
 use std::process::Abort;
 use std::test::Fail;
 
@@ -184,17 +185,13 @@ fn expect_step(
     at: usize,
 ) {
     assert!(rt; SHAPE.check().is_ok());
-    assert!(rt; SHAPE.has(step.place), "line {at}");
+    holds(rt, SHAPE.has(step.place), at);
     let op = step.op(&SHAPE);
     let kind = step.kind;
-    assert!(rt;
-        matches!(call.plan(), Plan::Step(next) if next == step),
-        "line {at}"
-    );
-    assert_eq!(rt; call.want(), Want::Do { op, kind }, "line {at}");
+    same(rt, call.want(), Want::Do { op, kind }, at);
     let found = image.make(op);
-    assert_eq!(rt; call.event(found), mark, "line {at}");
-    assert!(rt; call.accepts(found), "line {at}");
+    same(rt, call.event(found), mark, at);
+    holds(rt, call.accepts(found), at);
     call.got(found);
 }
 
@@ -207,59 +204,108 @@ fn expect_answer(
     at: usize,
 ) {
     match call.want() {
-        Want::Answered(_) => assert_eq!(rt; call.finish(), (cursor, answer), "line {at}"),
-        Want::Do { .. } => assert!(rt; false, "line {at}"),
+        Want::Answered(_) => same(rt, call.finish(), (cursor, answer), at),
+        Want::Do { .. } => holds(rt, false, at),
     }
 }
 
-/// Plays a scene.
-fn play(rt: &impl Abort, alloc: Global, lines: &[Line]) -> Result<(), Fail> {
+/// A table with no entry, of level 3.
+fn table(rt: &impl Abort, alloc: Global, counter: u64) -> Result<Image, AllocError> {
     let mut image = Image::of(alloc, SHAPE.check().ok().unwrap_or(0))?;
-    let mut kind = Kind::Counted;
-    let mut call = None;
-    for (at, line) in lines.iter().enumerate() {
-        match *line {
-            Line::Table(of_kind, counter) => {
-                assert_eq!(rt; image.words.as_slice(), image.told.as_slice(), "line {at}");
-                image = Image::of(alloc, SHAPE.check().ok().unwrap_or(0))?;
-                kind = of_kind;
-                image.put(index(rt, Place::Draws), 1);
-                image.put(index(rt, Place::Counter), counter);
-                image.put(index(rt, Place::Level), 3);
-            }
-            Line::Word(place, word) => image.put(index(rt, place), word),
+    image.put(index(rt, Place::Draws), 1);
+    image.put(index(rt, Place::Counter), counter);
+    image.put(index(rt, Place::Level), 3);
+    Ok(image)
+}
+
+/// A scene on its way.
+#[derive(Drop)]
+struct Scene {
+    image: Image,
+    kind: Kind,
+    /// The call that goes on, if any.
+    call: Option<CallMachine<'static>>,
+}
+
+impl Scene {
+    /// Fails unless no call goes on, and begins one.
+    fn begins(&mut self, rt: &impl Abort, call: CallMachine<'static>, at: usize) {
+        holds(rt, self.call.is_none(), at);
+        self.call = Some(call);
+    }
+
+    /// Fails unless a call goes on that makes this step next, and makes it.
+    fn makes(&mut self, rt: &impl Abort, step: Step, mark: Option<Mark>, at: usize) {
+        match &mut self.call {
+            Some(call) => expect_step(rt, &mut self.image, call, step, mark, at),
+            None => holds(rt, false, at),
+        }
+    }
+
+    /// Fails unless a call goes on that may not be told the word next.
+    fn refuses(&self, rt: &impl Abort, word: u64, at: usize) {
+        match &self.call {
+            Some(call) => holds(rt, !call.accepts(word), at),
+            None => holds(rt, false, at),
+        }
+    }
+
+    /// Fails unless a call goes on that has passed so many nodes.
+    fn passed(&self, rt: &impl Abort, nodes: u32, at: usize) {
+        match &self.call {
+            Some(call) => same(rt, call.passed(), nodes, at),
+            None => holds(rt, false, at),
+        }
+    }
+
+    /// Fails unless a call goes on that has this answer and leaves the cursor there.
+    fn answers(&mut self, rt: &impl Abort, answer: Answer, cursor: u32, at: usize) {
+        match self.call.take() {
+            Some(call) => expect_answer(rt, call, answer, cursor, at),
+            None => holds(rt, false, at),
+        }
+    }
+
+    /// Plays a line that is no new table.
+    fn plays(&mut self, rt: &impl Abort, line: Line, at: usize) {
+        match line {
+            Line::Table(..) => holds(rt, false, at),
+            Line::Word(place, word) => self.image.put(index(rt, place), word),
             Line::Call(number, cursor, ask) => {
-                assert!(rt; call.is_none(), "line {at}");
-                call = Some(begun(rt, kind, number, cursor, ask));
+                self.begins(rt, begun(rt, self.kind, number, cursor, ask), at);
             }
-            Line::Step(kind, place, deed, mark) => match &mut call {
-                Some(call) => {
-                    let step = Step { kind, place, deed };
-                    expect_step(rt, &mut image, call, step, mark, at);
-                }
-                None => assert!(rt; false, "line {at}"),
-            },
-            Line::Refuses(word) => match &call {
-                Some(call) => assert!(rt; !call.accepts(word), "line {at}"),
-                None => assert!(rt; false, "line {at}"),
-            },
-            Line::Passed(nodes) => match &call {
-                Some(call) => assert_eq!(rt; call.passed(), nodes, "line {at}"),
-                None => assert!(rt; false, "line {at}"),
-            },
-            Line::Answer(answer, cursor) => match call.take() {
-                Some(call) => expect_answer(rt, call, answer, cursor, at),
-                None => assert!(rt; false, "line {at}"),
-            },
+            Line::Step(kind, place, deed, mark) => {
+                self.makes(rt, Step { kind, place, deed }, mark, at);
+            }
+            Line::Refuses(word) => self.refuses(rt, word, at),
+            Line::Passed(nodes) => self.passed(rt, nodes, at),
+            Line::Answer(answer, cursor) => self.answers(rt, answer, cursor, at),
             Line::Leaves(place, word) => {
-                let place = index(rt, place);
-                assert_eq!(rt; image.words.get(place).copied(), Some(word), "line {at}");
-                assert!(rt; replace(&mut image.told, place, word) != word, "line {at}");
+                self.image.leaves(rt, index(rt, place), word, at);
             }
         }
     }
-    assert!(rt; call.is_none());
-    assert_eq!(rt; image.words.as_slice(), image.told.as_slice());
+}
+
+/// Plays scenes.
+fn play(rt: &impl Abort, alloc: Global, lines: &[Line]) -> Result<(), Fail> {
+    let mut scene = Scene {
+        image: table(rt, alloc, 0)?,
+        kind: Kind::Counted,
+        call: None,
+    };
+    for (at, line) in lines.iter().enumerate() {
+        match *line {
+            Line::Table(kind, counter) => {
+                scene.image.is_told(rt, at);
+                scene.image = table(rt, alloc, counter)?;
+                scene.kind = kind;
+            }
+            line => scene.plays(rt, line, at),
+        }
+    }
+    holds(rt, scene.call.is_none(), lines.len());
+    scene.image.is_told(rt, lines.len());
     Ok(())
 }
 

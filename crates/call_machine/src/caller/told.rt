@@ -14,6 +14,7 @@ use crate::stage::{CallStage, EnterStage, NodeStage};
 impl<'t> CallMachine<'t> {
     /// Whether the next step may find the word, so that `got` takes it; no word once the call has
     /// answered.
+    #[inline(always)]
     pub fn accepts(&self, word: u64) -> bool
         ensures fits { IsTrue result ↔ FitsCall self.now word }
     {

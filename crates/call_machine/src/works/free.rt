@@ -1,20 +1,22 @@
 //! Freeing the slots that wait, one after another.
 ghost use Rattle.std.specs.Prelude.{◌≡◌, ℕ, []};
 ghost use Rattle.table_shape.specs.declared.shape.Shape.{Shape};
+ghost use Rattle.call_machine.specs.Steps.{want_of, IsPlanInside};
 ghost use Rattle.call_machine.specs.WorkGraces as graces;
 ghost use Rattle.call_machine.specs.SoundWork.{IsSoundWork, IsSoundFree};
 
-use crate::step::{Plan, StepKind, store};
+use crate::step::{StepKind, Want, store};
 use crate::work::{BATCH, EndStage, FreeStage, LockStage, Progress, Side, Task, Work, WorkStage};
 use marked_word::Count;
 use table_shape::{Place, Shape};
 
 impl Work {
     /// How a slot is freed: its next generation with no hold, and then the claim.
-    pub(super) fn free_plan(&self, stage: FreeStage) -> Plan
-        requires sound { (shape : Shape) × IsSoundWork shape self.now }
+    pub(super) fn free_want(&self, shape: &Shape, stage: FreeStage) -> Want
+        requires sound { IsSoundWork shape.now self.now }
         requires stage { IsSoundFree self.now stage }
-        ensures value { result ≡ graces.free_plan self.now stage }
+        requires inside { IsPlanInside shape.now (graces.free_plan self.now stage) }
+        ensures value { result ≡ want_of shape.now (graces.free_plan self.now stage) }
     {
         match stage {
             FreeStage::Count { at, .. } => {
@@ -23,10 +25,16 @@ impl Work {
                     generation: waiting.generation + 1,
                     count: 0,
                 };
-                store(StepKind::K3, Place::Count(waiting.slot), count.to_word())
+                store(
+                    shape,
+                    StepKind::K3,
+                    Place::Count(waiting.slot),
+                    count.to_word(),
+                )
             }
             FreeStage::Claim { at, .. } => {
                 store(
+                    shape,
                     StepKind::K4,
                     Place::Claim(self.waiting[at as usize].slot),
                     0,

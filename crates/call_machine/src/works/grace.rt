@@ -1,21 +1,25 @@
 //! Graces: the counter is raised, and the section word of each seat number looked at.
 ghost use Rattle.std.specs.Prelude.{◌≡◌, ◌<◌};
 ghost use Rattle.table_shape.specs.declared.shape.Shape.{Shape};
+ghost use Rattle.table_shape.specs.Shape.{IsSound};
+ghost use Rattle.call_machine.specs.Steps.{want_of, IsPlanInside};
 ghost use Rattle.call_machine.specs.WorkGraces as graces;
 ghost use Rattle.call_machine.specs.SoundWork.{IsSoundGrace, FitsGrace};
 
 use super::parts::unzips_on;
-use crate::step::{Plan, StepKind, add, load};
+use crate::step::{StepKind, Want, add, load};
 use crate::work::{AfterGrace, EndStage, FreeStage, GraceStage, Progress, Side, Work, WorkStage};
 use table_shape::{Place, Shape};
 
 /// The step of a stage of a grace.
-pub(super) fn grace_plan(stage: GraceStage) -> Plan
-    ensures value { result ≡ graces.grace_plan stage }
+pub(super) fn grace_want(shape: &Shape, stage: GraceStage) -> Want
+    requires table { IsSound shape.now }
+    requires inside { IsPlanInside shape.now (graces.grace_plan stage) }
+    ensures value { result ≡ want_of shape.now (graces.grace_plan stage) }
 {
     match stage {
-        GraceStage::Raise { .. } => add(StepKind::K12, Place::Counter, 2),
-        GraceStage::Scan { seat, .. } => load(StepKind::K13, Place::Section(seat)),
+        GraceStage::Raise { .. } => add(shape, StepKind::K12, Place::Counter, 2),
+        GraceStage::Scan { seat, .. } => load(shape, StepKind::K13, Place::Section(seat)),
     }
 }
 

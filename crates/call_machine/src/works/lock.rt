@@ -2,15 +2,16 @@
 ghost use Rattle.std.specs.Prelude.{◌≡◌};
 ghost use Rattle.table_shape.specs.declared.shape.Shape.{Shape};
 ghost use Rattle.call_machine.specs.WorkParts as parts;
+ghost use Rattle.call_machine.specs.Steps.{want_of, IsPlanInside};
 ghost use Rattle.call_machine.specs.WorkLocks as locks;
 ghost use Rattle.call_machine.specs.SoundWork.{IsSoundWork, IsSoundLock, HasOldSide, HasNewSide};
 ghost use Rattle.call_machine.specs.SoundCall.{IsHeadWord};
 
 use super::parts::{cleans_on, end_level};
-use crate::step::{Plan, StepKind, exchange, load};
+use crate::step::{StepKind, Want, exchange, load};
 use crate::work::{Chains, HeadStage, LockStage, Progress, Side, Task, Work, WorkStage};
 use marked_word::{first_of, is_locked};
-use table_shape::Place;
+use table_shape::{Place, Shape};
 
 impl Work {
     /// How far the two buckets of a pair are apart.
@@ -56,14 +57,16 @@ impl Work {
     }
 
     /// How a bucket is locked.
-    pub(super) fn lock_plan(&self, stage: LockStage) -> Plan
-        requires sound { (shape : Shape) × IsSoundWork shape self.now × IsSoundLock shape self.now.task stage }
-        ensures value { result ≡ locks.lock_plan self.now stage }
+    pub(super) fn lock_want(&self, shape: &Shape, stage: LockStage) -> Want
+        requires sound { IsSoundWork shape.now self.now }
+        requires lock { IsSoundLock shape.now self.now.task stage }
+        requires inside { IsPlanInside shape.now (locks.lock_plan self.now stage) }
+        ensures value { result ≡ want_of shape.now (locks.lock_plan self.now stage) }
     {
         match stage {
-            LockStage::LoadHead { side } => load(StepKind::K5, self.old_head(side)),
+            LockStage::LoadHead { side } => load(shape, StepKind::K5, self.old_head(side)),
             LockStage::SetLock { side, head } => {
-                exchange(StepKind::K14, self.old_head(side), head, head + 1)
+                exchange(shape, StepKind::K14, self.old_head(side), head, head + 1)
             }
         }
     }

@@ -1,15 +1,16 @@
 //! The buckets of a work, the words of heads that it stores, and how it goes on.
 ghost use Rattle.std.specs.Prelude.{◌≡◌, ◌^◌, ◌<◌, ◌≤◌, true, false};
 ghost use Rattle.marked_word.specs.Head.{head_word};
+ghost use Rattle.call_machine.specs.Steps.{want_of, IsPlanInside};
 ghost use Rattle.call_machine.specs.WorkParts as parts;
 ghost use Rattle.call_machine.specs.SoundWork.{LeadsToLevel};
 ghost use Rattle.table_shape.specs.declared.shape.Shape.{Shape};
 ghost use Rattle.table_shape.specs.Shape.{IsSound};
 
-use crate::step::{Plan, StepKind, store};
+use crate::step::{StepKind, Want, store};
 use crate::work::{Chains, LAST_GRACE, PassStage, Progress, Side, Task, UnzipStage, WorkStage};
 use marked_word::{Head, link_word};
-use table_shape::Place;
+use table_shape::{Place, Shape};
 
 /// The level to which a work leads.
 pub(super) fn end_level(task: Task, level: u8) -> u8
@@ -82,12 +83,20 @@ pub(super) fn plain_head(node: Option<u32>) -> u64
 
 /// A step that stores the next node at the end of a chain: in the link of its last node, or where there
 /// is none in its locked head.
-pub(super) fn stores_next(kind: StepKind, last: Option<u32>, head: Place, next: Option<u32>) -> Plan
-    ensures value { result ≡ parts.stores_next kind last head next }
+pub(super) fn stores_next(
+    shape: &Shape,
+    kind: StepKind,
+    last: Option<u32>,
+    head: Place,
+    next: Option<u32>,
+) -> Want
+    requires table { IsSound shape.now }
+    requires inside { IsPlanInside shape.now (parts.stores_next kind last head next) }
+    ensures value { result ≡ want_of shape.now (parts.stores_next kind last head next) }
 {
     match last {
-        None => store(kind, head, locked_head(next)),
-        Some(node) => store(kind, Place::Link(node), link_word(next)),
+        None => store(shape, kind, head, locked_head(next)),
+        Some(node) => store(shape, kind, Place::Link(node), link_word(next)),
     }
 }
 

@@ -2,15 +2,16 @@
 ghost use Rattle.std.specs.Prelude.{◌≡◌, ◌^◌, ◌<◌, ◌≤◌, length};
 ghost use Rattle.table_shape.specs.declared.shape.Shape.{Shape};
 ghost use Rattle.call_machine.specs.WorkParts as parts;
+ghost use Rattle.call_machine.specs.Steps.{want_of, IsPlanInside};
 ghost use Rattle.call_machine.specs.WorkPasses as passes;
 ghost use Rattle.call_machine.specs.SoundWork.{IsSoundWork, IsSoundPass, FitsPass};
 
 use super::parts::{cleans_on, stores_next};
 use crate::counts::{generation_of, holds_of};
-use crate::step::{Plan, StepKind, load};
+use crate::step::{StepKind, Want, load};
 use crate::work::{PassStage, Progress, Side, Waiting, Work, WorkStage};
 use marked_word::node_of;
-use table_shape::Place;
+use table_shape::{Place, Shape};
 
 /// The first generation that no count word has.
 const GENERATIONS: u64 = 1 << 48;
@@ -28,16 +29,17 @@ fn dead_of(word: u64) -> Option<u64>
 
 impl Work {
     /// How a node is unlinked.
-    pub(super) fn pass_plan(&self, stage: PassStage) -> Plan
-        requires sound { (shape : Shape) × IsSoundWork shape self.now }
-        ensures value { result ≡ passes.pass_plan self.now stage }
+    pub(super) fn pass_want(&self, shape: &Shape, stage: PassStage) -> Want
+        requires sound { IsSoundWork shape.now self.now }
+        requires inside { IsPlanInside shape.now (passes.pass_plan self.now stage) }
+        ensures value { result ≡ want_of shape.now (passes.pass_plan self.now stage) }
     {
         match stage {
-            PassStage::Count { node } => load(StepKind::K6, Place::Count(node)),
-            PassStage::Link { node, .. } => load(StepKind::K6, Place::Link(node)),
+            PassStage::Count { node } => load(shape, StepKind::K6, Place::Count(node)),
+            PassStage::Link { node, .. } => load(shape, StepKind::K6, Place::Link(node)),
             PassStage::Unlink { next, .. } => {
                 let head = self.old_head(Side::Even);
-                stores_next(StepKind::K16, self.chains.even_last, head, next)
+                stores_next(shape, StepKind::K16, self.chains.even_last, head, next)
             }
         }
     }

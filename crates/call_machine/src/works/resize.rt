@@ -2,19 +2,20 @@
 ghost use Rattle.std.specs.Prelude.{◌≡◌, ◌≤◌};
 ghost use Rattle.table_shape.specs.declared.shape.Shape.{Shape};
 ghost use Rattle.call_machine.specs.WorkParts as parts;
+ghost use Rattle.call_machine.specs.Steps.{want_of, IsPlanInside};
 ghost use Rattle.call_machine.specs.WorkResizes as resizes;
 ghost use Rattle.call_machine.specs.SoundWork.{IsSoundWork, FitsUnzip, FitsJoin};
 
 use super::parts::{
     first_at, joined_first, locked_head, raise_progress, redirected_head, stores_next, unzips_on,
 };
-use crate::step::{Plan, StepKind, load, store};
+use crate::step::{StepKind, Want, load, store};
 use crate::work::{
     AfterGrace, Chains, GraceStage, HeadStage, JoinStage, Progress, Side, Task, UnzipStage, Work,
     WorkStage,
 };
 use marked_word::{link_word, node_of};
-use table_shape::Place;
+use table_shape::{Place, Shape};
 
 /// Along the even chain to its end, or where there is none at once to the redirects.
 fn joins_from(even: Option<u32>) -> WorkStage
@@ -86,18 +87,19 @@ impl Work {
     }
 
     /// How heads are made and redirected.
-    pub(super) fn head_plan(&self, stage: HeadStage) -> Plan
-        requires sound { (shape : Shape) × IsSoundWork shape self.now }
-        ensures value { result ≡ resizes.head_plan self.now stage }
+    pub(super) fn head_want(&self, shape: &Shape, stage: HeadStage) -> Want
+        requires sound { IsSoundWork shape.now self.now }
+        requires inside { IsPlanInside shape.now (resizes.head_plan self.now stage) }
+        ensures value { result ≡ want_of shape.now (resizes.head_plan self.now stage) }
     {
         match stage {
             HeadStage::Put { side } => {
                 let word = locked_head(self.made_first(side));
-                store(StepKind::K21, self.new_head(side), word)
+                store(shape, StepKind::K21, self.new_head(side), word)
             }
             HeadStage::Redirect { side } => {
                 let word = redirected_head(first_at(self.chains, side));
-                store(StepKind::K23, self.old_head(side), word)
+                store(shape, StepKind::K23, self.old_head(side), word)
             }
         }
     }
@@ -130,28 +132,30 @@ impl Work {
     }
 
     /// How a chain is unzipped.
-    pub(super) fn unzip_plan(&self, stage: UnzipStage) -> Plan
-        requires sound { (shape : Shape) × IsSoundWork shape self.now }
-        ensures value { result ≡ resizes.unzip_plan self.now stage }
+    pub(super) fn unzip_want(&self, shape: &Shape, stage: UnzipStage) -> Want
+        requires sound { IsSoundWork shape.now self.now }
+        requires inside { IsPlanInside shape.now (resizes.unzip_plan self.now stage) }
+        ensures value { result ≡ want_of shape.now (resizes.unzip_plan self.now stage) }
     {
         match stage {
-            UnzipStage::Meta { node } => load(StepKind::K6, Place::Meta(node)),
-            UnzipStage::Link { node, .. } => load(StepKind::K6, Place::Link(node)),
-            UnzipStage::Move { odd, next, .. } => self.move_plan(odd, next),
+            UnzipStage::Meta { node } => load(shape, StepKind::K6, Place::Meta(node)),
+            UnzipStage::Link { node, .. } => load(shape, StepKind::K6, Place::Link(node)),
+            UnzipStage::Move { odd, next, .. } => self.move_want(shape, odd, next),
         }
     }
 
     /// How the end so far of the side to which a node does not belong is moved past it.
-    fn move_plan(&self, odd: bool, next: Option<u32>) -> Plan
-        requires sound { (shape : Shape) × IsSoundWork shape self.now }
-        ensures value { result ≡ resizes.move_plan self.now odd next }
+    fn move_want(&self, shape: &Shape, odd: bool, next: Option<u32>) -> Want
+        requires sound { IsSoundWork shape.now self.now }
+        requires inside { IsPlanInside shape.now (resizes.move_plan self.now odd next) }
+        ensures value { result ≡ want_of shape.now (resizes.move_plan self.now odd next) }
     {
         if odd {
             let head = self.new_head(Side::Even);
-            stores_next(StepKind::K24, self.chains.even_last, head, next)
+            stores_next(shape, StepKind::K24, self.chains.even_last, head, next)
         } else {
             let head = self.new_head(Side::Odd);
-            stores_next(StepKind::K24, self.chains.odd_last, head, next)
+            stores_next(shape, StepKind::K24, self.chains.odd_last, head, next)
         }
     }
 
@@ -178,13 +182,20 @@ impl Work {
     }
 
     /// How two chains are joined.
-    pub(super) fn join_plan(&self, stage: JoinStage) -> Plan
-        ensures value { result ≡ resizes.join_plan self.now stage }
+    pub(super) fn join_want(&self, shape: &Shape, stage: JoinStage) -> Want
+        requires sound { IsSoundWork shape.now self.now }
+        requires inside { IsPlanInside shape.now (resizes.join_plan self.now stage) }
+        ensures value { result ≡ want_of shape.now (resizes.join_plan self.now stage) }
     {
         match stage {
-            JoinStage::Link { node } => load(StepKind::K6, Place::Link(node)),
+            JoinStage::Link { node } => load(shape, StepKind::K6, Place::Link(node)),
             JoinStage::Join { node } => {
-                store(StepKind::K26, Place::Link(node), link_word(self.chains.odd))
+                store(
+                    shape,
+                    StepKind::K26,
+                    Place::Link(node),
+                    link_word(self.chains.odd),
+                )
             }
         }
     }

@@ -5,7 +5,8 @@ ghost use Rattle.call_machine.specs.SoundWork.{LeadsToLevel};
 
 use crate::begin::BeginStage;
 use crate::call::{Answer, Call};
-use crate::image::{Image, replace};
+use crate::expect::{holds, same};
+use crate::image::Image;
 use crate::machine::{Machine, Own};
 use crate::mark::Mark;
 use crate::poll::PollMachine;
@@ -19,12 +20,15 @@ use std::test::Fail;
 use table_shape::{Place, Shape};
 
 mod begins;
+mod bounds;
 mod cleans;
 mod grows;
+mod many;
 mod shrinks;
 mod sweeps;
+mod worked;
 
-/// The shape of the table: rows of 2 and 4 heads, and two seats.
+/// The shape of most tables: rows of 2 and 4 heads, and two seats.
 static SHAPE: Shape = Shape {
     slots: 6,
     text_words: 1,
@@ -80,18 +84,24 @@ pub(crate) enum Ask {
 }
 
 /// The index of a word.
-fn index(rt: &impl Abort, place: Place) -> usize {
-    assert!(rt; SHAPE.check().is_ok());
-    assert!(rt; SHAPE.has(place));
-    SHAPE.index(place) as usize
+fn index(rt: &impl Abort, shape: &Shape, place: Place) -> usize {
+    assert!(rt; shape.check().is_ok());
+    assert!(rt; shape.has(place));
+    shape.index(place) as usize
 }
 
 /// A table with no entry.
-fn table(rt: &impl Abort, alloc: Global, level: u8, counter: u64) -> Result<Image, AllocError> {
-    let mut image = Image::of(alloc, SHAPE.check().ok().unwrap_or(0))?;
-    image.put(index(rt, Place::Draws), 1);
-    image.put(index(rt, Place::Counter), counter);
-    image.put(index(rt, Place::Level), u64::from(level));
+fn table(
+    rt: &impl Abort,
+    alloc: Global,
+    shape: &Shape,
+    level: u8,
+    counter: u64,
+) -> Result<Image, AllocError> {
+    let mut image = Image::of(alloc, shape.check().ok().unwrap_or(0))?;
+    image.put(index(rt, shape, Place::Draws), 1);
+    image.put(index(rt, shape, Place::Counter), counter);
+    image.put(index(rt, shape, Place::Level), u64::from(level));
     Ok(image)
 }
 
@@ -104,9 +114,9 @@ fn refuses(call: &Option<Machine<'static>>, word: u64) -> bool {
 }
 
 /// A call at its first step.
-fn begun(rt: &impl Abort, number: u32, ask: Ask) -> Machine<'static> {
-    assert!(rt; SHAPE.check().is_ok());
-    assert!(rt; number < SHAPE.seats);
+fn begun(rt: &impl Abort, shape: &Shape, number: u32, ask: Ask) -> Machine<'static> {
+    assert!(rt; shape.check().is_ok());
+    assert!(rt; number < shape.seats);
     let own = Own {
         number,
         cursor: 0,
@@ -115,11 +125,11 @@ fn begun(rt: &impl Abort, number: u32, ask: Ask) -> Machine<'static> {
     };
     let kind = Kind::Counted;
     match ask {
-        Ask::Clean => Machine::start(kind, &SHAPE, own, Call::BeginClean),
-        Ask::Grow => Machine::start(kind, &SHAPE, own, Call::BeginGrow),
-        Ask::Shrink => Machine::start(kind, &SHAPE, own, Call::BeginShrink),
-        Ask::Grace => Machine::start(kind, &SHAPE, own, Call::BeginGrace),
-        Ask::Sweep(text) => Machine::start(kind, &SHAPE, own, Call::Sweep(text)),
+        Ask::Clean => Machine::start(kind, shape, own, Call::BeginClean),
+        Ask::Grow => Machine::start(kind, shape, own, Call::BeginGrow),
+        Ask::Shrink => Machine::start(kind, shape, own, Call::BeginShrink),
+        Ask::Grace => Machine::start(kind, shape, own, Call::BeginGrace),
+        Ask::Sweep(text) => Machine::start(kind, shape, own, Call::Sweep(text)),
     }
 }
 
@@ -183,20 +193,21 @@ fn polled(rt: &impl Abort, machine: Machine<'static>) -> Option<Machine<'static>
 /// Fails unless the call makes this step next, and makes it.
 fn expect_step(
     rt: &impl Abort,
+    shape: &Shape,
     image: &mut Image,
     call: &mut Machine<'static>,
     step: Step,
     mark: Option<Mark>,
     at: usize,
 ) {
-    assert!(rt; SHAPE.check().is_ok());
-    assert!(rt; SHAPE.has(step.place), "line {at}");
-    let op = step.op(&SHAPE);
+    assert!(rt; shape.check().is_ok());
+    holds(rt, shape.has(step.place), at);
+    let op = step.op(shape);
     let kind = step.kind;
-    assert_eq!(rt; call.want(), Want::Do { op, kind }, "line {at}");
+    same(rt, call.want(), Want::Do { op, kind }, at);
     let found = image.make(op);
-    assert_eq!(rt; call.event(found), mark, "line {at}");
-    assert!(rt; call.accepts(found), "line {at}");
+    same(rt, call.event(found), mark, at);
+    holds(rt, call.accepts(found), at);
     call.got(found);
 }
 
@@ -204,82 +215,144 @@ fn expect_step(
 fn expect_own(rt: &impl Abort, call: Machine<'static>, work: bool, grace: bool, at: usize) {
     match call.want() {
         Want::Answered(answer) => {
-            assert_eq!(rt; call.passed(), 0, "line {at}");
+            same(rt, call.passed(), 0, at);
             let (own, last) = call.finish();
-            assert_eq!(rt; last, answer, "line {at}");
-            assert_eq!(rt; own.work.is_some(), work, "line {at}");
-            assert_eq!(rt; own.grace.is_some(), grace, "line {at}");
+            same(rt, last, answer, at);
+            same(rt, own.work.is_some(), work, at);
+            same(rt, own.grace.is_some(), grace, at);
         }
-        Want::Do { .. } => assert!(rt; false, "line {at}"),
+        Want::Do { .. } => holds(rt, false, at),
     }
 }
 
-/// Fails unless the word was changed to this one.
-fn expect_left(rt: &impl Abort, image: &mut Image, place: usize, word: u64, at: usize) {
-    assert_eq!(rt; image.words.get(place).copied(), Some(word), "line {at}");
-    assert!(rt; replace(&mut image.told, place, word) != word, "line {at}");
+/// A scene on its way.
+#[derive(Drop)]
+struct Scene {
+    image: Image,
+    /// The call that goes on, if any.
+    call: Option<Machine<'static>>,
+    /// The call that has answered last, while nothing follows it.
+    rest: Option<Machine<'static>>,
 }
 
-/// Plays a scene.
-fn play(rt: &impl Abort, alloc: Global, lines: &[Line]) -> Result<(), Fail> {
-    let mut image = table(rt, alloc, 1, 0)?;
-    let mut call = None;
-    let mut rest = None;
+impl Scene {
+    /// Fails unless no call goes on, and begins the next one, or the poll that follows the last one.
+    fn begins(&mut self, rt: &impl Abort, next: Option<Machine<'static>>, at: usize) {
+        holds(rt, self.call.is_none(), at);
+        let rest = self.rest.take();
+        self.call = match (next, rest) {
+            (Some(next), _) => Some(next),
+            (None, Some(rest)) => polled(rt, rest),
+            (None, None) => None,
+        };
+    }
+
+    /// Fails unless a call goes on that makes this step next, and makes it.
+    fn makes(&mut self, rt: &impl Abort, shape: &Shape, step: Step, mark: Option<Mark>, at: usize) {
+        match &mut self.call {
+            Some(call) => expect_step(rt, shape, &mut self.image, call, step, mark, at),
+            None => holds(rt, false, at),
+        }
+    }
+
+    /// Fails unless a call goes on that has this answer.
+    fn answers(&mut self, rt: &impl Abort, answer: Answer, at: usize) {
+        match self.call.take() {
+            Some(call) => {
+                same(rt, call.want(), Want::Answered(answer), at);
+                self.rest = Some(call);
+            }
+            None => holds(rt, false, at),
+        }
+    }
+
+    /// Fails unless the last call has answered, and leaves its seat a work or a grace or neither.
+    fn keeps(&mut self, rt: &impl Abort, work: bool, grace: bool, at: usize) {
+        match self.rest.take() {
+            Some(rest) => expect_own(rt, rest, work, grace, at),
+            None => holds(rt, false, at),
+        }
+    }
+
+    /// Plays a line that is no new table.
+    fn plays(&mut self, rt: &impl Abort, shape: &Shape, line: Line, at: usize) {
+        match line {
+            Line::Table(..) => holds(rt, false, at),
+            Line::Word(place, word) => self.image.put(index(rt, shape, place), word),
+            Line::Call(number, ask) => self.begins(rt, Some(begun(rt, shape, number, ask)), at),
+            Line::Poll => self.begins(rt, None, at),
+            Line::Step(kind, place, deed, mark) => {
+                self.makes(rt, shape, Step { kind, place, deed }, mark, at);
+            }
+            Line::Refuses(word) => {
+                let refused = refuses(&self.call, word) || refuses(&self.rest, word);
+                holds(rt, refused, at);
+            }
+            Line::Answer(answer) => self.answers(rt, answer, at),
+            Line::Keeps(work, grace) => self.keeps(rt, work, grace, at),
+            Line::Leaves(place, word) => {
+                self.image.leaves(rt, index(rt, shape, place), word, at);
+            }
+        }
+    }
+}
+
+/// Plays scenes.
+fn play(rt: &impl Abort, alloc: Global, shape: &Shape, lines: &[Line]) -> Result<(), Fail> {
+    let mut scene = Scene {
+        image: table(rt, alloc, shape, shape.min_level, 0)?,
+        call: None,
+        rest: None,
+    };
     for (at, line) in lines.iter().enumerate() {
         match *line {
             Line::Table(level, counter) => {
-                assert_eq!(rt; image.words.as_slice(), image.told.as_slice(), "line {at}");
-                image = table(rt, alloc, level, counter)?;
+                scene.image.is_told(rt, at);
+                scene.image = table(rt, alloc, shape, level, counter)?;
             }
-            Line::Word(place, word) => image.put(index(rt, place), word),
-            Line::Call(number, ask) => {
-                assert!(rt; call.is_none(), "line {at}");
-                rest = None;
-                call = Some(begun(rt, number, ask));
-            }
-            Line::Poll => {
-                assert!(rt; call.is_none(), "line {at}");
-                call = match rest.take() {
-                    Some(rest) => polled(rt, rest),
-                    None => None,
-                };
-            }
-            Line::Step(kind, place, deed, mark) => match &mut call {
-                Some(call) => {
-                    let step = Step { kind, place, deed };
-                    expect_step(rt, &mut image, call, step, mark, at);
-                }
-                None => assert!(rt; false, "line {at}"),
-            },
-            Line::Refuses(word) => {
-                assert!(rt; refuses(&call, word) || refuses(&rest, word), "line {at}");
-            }
-            Line::Answer(answer) => match call.take() {
-                Some(call) => {
-                    assert_eq!(rt; call.want(), Want::Answered(answer), "line {at}");
-                    rest = Some(call);
-                }
-                None => assert!(rt; false, "line {at}"),
-            },
-            Line::Keeps(work, grace) => match rest.take() {
-                Some(rest) => expect_own(rt, rest, work, grace, at),
-                None => assert!(rt; false, "line {at}"),
-            },
-            Line::Leaves(place, word) => {
-                expect_left(rt, &mut image, index(rt, place), word, at);
-            }
+            line => scene.plays(rt, shape, line, at),
         }
     }
-    assert!(rt; call.is_none());
-    assert_eq!(rt; image.words.as_slice(), image.told.as_slice());
+    holds(rt, scene.call.is_none(), lines.len());
+    scene.image.is_told(rt, lines.len());
     Ok(())
 }
 
 #[test]
 fn works_go_step_by_step(rt: HostRuntime) -> Result<(), Fail> {
-    play(&rt, rt.alloc(), &begins::SCENES)?;
-    play(&rt, rt.alloc(), &cleans::SCENES)?;
-    play(&rt, rt.alloc(), &grows::SCENES)?;
-    play(&rt, rt.alloc(), &shrinks::SCENES)?;
-    play(&rt, rt.alloc(), &sweeps::SCENES)
+    play(&rt, rt.alloc(), &SHAPE, &begins::SCENES)?;
+    play(&rt, rt.alloc(), &SHAPE, &cleans::SCENES)?;
+    play(&rt, rt.alloc(), &SHAPE, &grows::SCENES)?;
+    play(&rt, rt.alloc(), &SHAPE, &shrinks::SCENES)?;
+    play(&rt, rt.alloc(), &SHAPE, &sweeps::SCENES)
+}
+
+#[test]
+fn a_long_bucket_is_cleaned_in_passes(rt: HostRuntime) -> Result<(), Fail> {
+    let scenes = many::scenes(rt.alloc())?;
+    play(&rt, rt.alloc(), &many::SHAPE, &scenes)
+}
+
+#[test]
+fn a_grow_parts_a_bucket_of_four(rt: HostRuntime) -> Result<(), Fail> {
+    let scene = worked::grow(rt.alloc())?;
+    play(&rt, rt.alloc(), &worked::SHAPE, &scene)
+}
+
+#[test]
+fn a_shrink_joins_two_buckets_of_two(rt: HostRuntime) -> Result<(), Fail> {
+    let scenes = worked::shrink(rt.alloc())?;
+    play(&rt, rt.alloc(), &worked::SHAPE, &scenes)
+}
+
+#[test]
+fn a_grow_begins_no_grace_behind_its_last(rt: HostRuntime) -> Result<(), Fail> {
+    let scene = bounds::grow(rt.alloc())?;
+    play(&rt, rt.alloc(), &bounds::GROW_SHAPE, &scene)
+}
+
+#[test]
+fn two_buckets_together_fill_a_clean(rt: HostRuntime) -> Result<(), Fail> {
+    let scenes = bounds::cleans(rt.alloc())?;
+    play(&rt, rt.alloc(), &bounds::CLEAN_SHAPE, &scenes)
 }

@@ -97,8 +97,7 @@ fn expect_run(
 }
 
 /// Files and their reports.
-static REPORTS: [Case; 9] = [
-    THREE_NAMES,
+static REPORTS: [Case; 8] = [
     THREE_NAMES,
     EMPTY,
     Case {
