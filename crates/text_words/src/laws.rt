@@ -1,5 +1,6 @@
-//! Laws of the words of a text. Each function does nothing: its contract is the law.
-ghost use Rattle.std.specs.Prelude.{◌≡◌, ◌<◌, ℕ, List, All, length};
+//! Laws of the words of a text and of its hash. Each function does nothing: its contract is the law.
+ghost use Rattle.std.specs.Prelude.{◌≡◌, ◌<◌, ◌^◌, ℕ, List, [], ◌∷◌, All, length};
+ghost use Rattle.text_words.specs.Hash.{hash31, hash_of};
 ghost use Rattle.text_words.specs.Words.{words_of, word_at, packed_words, unpacked};
 
 /// A text comes back from its words.
@@ -19,6 +20,30 @@ pub fn texts_equal_word_by_word_are_equal()
         ((at : ℕ) → at < words_of (length a) → word_at a at ≡ word_at b at) → a ≡ b }
 {}
 
+/// By seed 0 the hash is the polynomial of 31.
+pub fn hash_by_seed_0_is_the_polynomial()
+    ensures law { (text : List ℕ) → hash_of 0 text ≡ hash31 text }
+{}
+
+/// By a seed of 32 bits the hash has 32 bits.
+pub fn hashes_are_below_2_32()
+    ensures law { (seed : ℕ) (text : List ℕ) → seed < 2 ^ 32 → hash_of seed text < 2 ^ 32 }
+{}
+
+/// Two texts with one polynomial, `Aa` and `BB`.
+pub fn polynomials_of_known_texts()
+    ensures a { hash31 (97 ∷ []) ≡ 97 }
+    ensures upper_then_lower { hash31 (65 ∷ 97 ∷ []) ≡ 2112 }
+    ensures two_uppers { hash31 (66 ∷ 66 ∷ []) ≡ 2112 }
+{}
+
+/// By seed 1 they have different hashes.
+pub fn hashes_of_known_texts_by_seed_1()
+    ensures a { hash_of 1 (97 ∷ []) ≡ 1610676000 }
+    ensures upper_then_lower { hash_of 1 (65 ∷ 97 ∷ []) ≡ 1637746925 }
+    ensures two_uppers { hash_of 1 (66 ∷ 66 ∷ []) ≡ 3030717252 }
+{}
+
 #[cfg(test)]
 mod tests {
     use super::*;
@@ -28,5 +53,9 @@ mod tests {
         unpacked_text_is_the_packed_one();
         texts_with_equal_words_are_equal();
         texts_equal_word_by_word_are_equal();
+        hash_by_seed_0_is_the_polynomial();
+        hashes_are_below_2_32();
+        polynomials_of_known_texts();
+        hashes_of_known_texts_by_seed_1();
     }
 }
