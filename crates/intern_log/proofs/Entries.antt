@@ -10,7 +10,7 @@ use Rattle.std.proofs.lemmas.Cmp.{nat_list_cmp_total}
 use Rattle.std.specs.FinMap as finite
 use Rattle.intern_log.specs.declared.event.Entry.{Entry}
 use Rattle.intern_log.specs.declared.event.What.{What}
-use Rattle.intern_log.specs.declared.event.What.TheVariants.{Create, Take, Found, Drop, Perm, Kill, Claim, Free, Open, Close, Grace, Lock, Unlock, Unlink, ResizeTaken, ResizeGiven, Level}
+use Rattle.intern_log.specs.declared.event.What.TheVariants.{Create, Take, Found, Drop, Perm, Kill, Claim, Free, Open, Close, Grace, Lock, Unlock, Unlink, ResizeTaken, ResizeGiven, Level, Rehash}
 use Rattle.intern_log.specs.TextMap.{TextMap, entry_of, put_at, altered, alter, at_handle}
 use Rattle.intern_log.specs.Log.{next, entry_after, new_entry, raised, lowered}
 
@@ -64,6 +64,7 @@ entry_of-next m (Unlink s) q = refl
 entry_of-next m ResizeTaken q = refl
 entry_of-next m ResizeGiven q = refl
 entry_of-next m (Level l) q = refl
+entry_of-next m (Rehash n) q = refl
 
 pub same_entries : (m n : TextMap) → ((text : List ℕ) → entry_of m text ≡ entry_of n text) → m ≡ n
 same_entries m n same = finite.same_map nat_list_cmp_total (finite.slice_cmp-IsAntisymmetric finite.nat_cmp-IsAntisymmetric) m n same

@@ -4,7 +4,7 @@ use Rattle.std.proofs.Math.Seq.{drop-cons}
 use Rattle.std.proofs.lemmas.List.{take_more, take-append-drop, length-take-le}
 use Rattle.intern_log.specs.declared.event.Event.{Event}
 use Rattle.intern_log.specs.declared.event.What.{What}
-use Rattle.intern_log.specs.declared.event.What.TheVariants.{Create, Take, Found, Drop, Perm, Kill, Claim, Free, Open, Close, Grace, Lock, Unlock, Unlink, ResizeTaken, ResizeGiven, Level}
+use Rattle.intern_log.specs.declared.event.What.TheVariants.{Create, Take, Found, Drop, Perm, Kill, Claim, Free, Open, Close, Grace, Lock, Unlock, Unlink, ResizeTaken, ResizeGiven, Level, Rehash}
 use Rattle.intern_log.specs.TextMap.{TextMap, no_texts}
 use Rattle.intern_log.specs.Log.{next, Allows, map_of, IsLegal}
 use Rattle.intern_log.specs.Own.{is_visible}
@@ -30,6 +30,7 @@ visible m (Unlink s) not = absurd (not tt)
 visible m ResizeTaken not = absurd (not tt)
 visible m ResizeGiven not = absurd (not tt)
 visible m (Level l) not = absurd (not tt)
+visible m (Rehash n) not = absurd (not tt)
 
 module _ (log : List Event) (i : ℕ) (e : Event) (inside : i < length log) (is : e ≡ get_or log i e) where
   -- the log around the event at a place, and up to it

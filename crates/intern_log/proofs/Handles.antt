@@ -12,7 +12,7 @@ use Rattle.intern_log.specs.declared.event.Handle.{Handle}
 use Rattle.intern_log.specs.declared.event.Entry.{Entry}
 use Rattle.intern_log.specs.declared.event.Event.{Event}
 use Rattle.intern_log.specs.declared.event.What.{What}
-use Rattle.intern_log.specs.declared.event.What.TheVariants.{Create, Take, Found, Drop, Perm, Kill, Claim, Free, Open, Close, Grace, Lock, Unlock, Unlink, ResizeTaken, ResizeGiven, Level}
+use Rattle.intern_log.specs.declared.event.What.TheVariants.{Create, Take, Found, Drop, Perm, Kill, Claim, Free, Open, Close, Grace, Lock, Unlock, Unlink, ResizeTaken, ResizeGiven, Level, Rehash}
 use Rattle.intern_log.specs.declared.event.TheConstants.{PERMANENT}
 use Rattle.intern_log.specs.TextMap.{TextMap, no_texts, entry_of, handle_eq, HasHandle, at_handle}
 use Rattle.intern_log.specs.Log.{next, entry_after, new_entry, raised, lowered, made_permanent, Allows, map_after, map_of, IsLegalFrom, IsLegal, HandlesDiffer}
@@ -76,6 +76,7 @@ origin (Unlink s) t o f is = inl (f, is, refl)
 origin ResizeTaken t o f is = inl (f, is, refl)
 origin ResizeGiven t o f is = inl (f, is, refl)
 origin (Level l) t o f is = inl (f, is, refl)
+origin (Rehash n) t o f is = inl (f, is, refl)
 
 -- the same of the map
 pub origin_in_map : (m : TextMap) (what : What) (t : List ℕ) (h : Handle) → HasHandle (next m what) t h → HasHandle m t h ⊎ (what ≡ Create t h)

@@ -2,7 +2,7 @@
 use Rattle.std.proofs.Common.{◌≡◌, ℕ, List, [], ◌∷◌, ◌++◌, refl}
 use Rattle.intern_log.specs.declared.event.Event.{Event}
 use Rattle.intern_log.specs.declared.event.What.{What}
-use Rattle.intern_log.specs.declared.event.What.TheVariants.{Create, Take, Found, Drop, Perm, Kill, Claim, Free, Open, Close, Grace, Lock, Unlock, Unlink, ResizeTaken, ResizeGiven, Level}
+use Rattle.intern_log.specs.declared.event.What.TheVariants.{Create, Take, Found, Drop, Perm, Kill, Claim, Free, Open, Close, Grace, Lock, Unlock, Unlink, ResizeTaken, ResizeGiven, Level, Rehash}
 use Rattle.intern_log.specs.Log.{Allows, map_after, IsLegalFrom, IsLegal, HandlesDiffer, map_of}
 use Rattle.intern_log.specs.Now.{Now, opening, now_after_event, now_after}
 use Rattle.intern_log.specs.declared.event.TableKind.{TableKind}
@@ -48,6 +48,7 @@ MayFollow-allows table now seat (Unlink s) may = tt
 MayFollow-allows table now seat ResizeTaken may = tt
 MayFollow-allows table now seat ResizeGiven may = tt
 MayFollow-allows table now seat (Level l) may = tt
+MayFollow-allows table now seat (Rehash n) may = tt
 
 pub allowed_is_legal : (table : TableKind) (now : Now) (log : List Event) → IsAllowedFrom table now log → IsLegalFrom now.texts log
 allowed_is_legal table now [] allowed = tt

@@ -15,7 +15,7 @@ use Rattle.intern_log.specs.declared.event.Entry.{Entry}
 use Rattle.intern_log.specs.declared.event.What.{What}
 use Rattle.intern_log.specs.declared.event.Event.{Event}
 use Rattle.intern_log.specs.declared.event.Kind.TheVariants.{Counted, Weak}
-use Rattle.intern_log.specs.declared.event.What.TheVariants.{Create, Take, Found, Drop, Perm, Kill, Claim, Free, Open, Close, Grace, Lock, Unlock, Unlink, ResizeTaken, ResizeGiven, Level}
+use Rattle.intern_log.specs.declared.event.What.TheVariants.{Create, Take, Found, Drop, Perm, Kill, Claim, Free, Open, Close, Grace, Lock, Unlock, Unlink, ResizeTaken, ResizeGiven, Level, Rehash}
 use Rattle.intern_log.specs.declared.event.TheConstants.{PERMANENT}
 use Rattle.intern_log.specs.TextMap.{TextMap, no_texts, entry_of, handle_eq, IsLive, at_handle}
 use Rattle.intern_log.specs.Log.{next, new_entry, raised, lowered, made_permanent, Allows, map_after, map_of, IsLegalFrom, HandlesDiffer}
@@ -304,6 +304,7 @@ book-next m (Unlink x) k gained lost differ allowed counted book = recount m k g
 book-next m ResizeTaken k gained lost differ allowed counted book = recount m k gained lost _ _ book (none_is false gained refl) (none_is false lost refl)
 book-next m ResizeGiven k gained lost differ allowed counted book = recount m k gained lost _ _ book (none_is false gained refl) (none_is false lost refl)
 book-next m (Level l) k gained lost differ allowed counted book = recount m k gained lost _ _ book (none_is false gained refl) (none_is false lost refl)
+book-next m (Rehash n) k gained lost differ allowed counted book = recount m k gained lost _ _ book (none_is false gained refl) (none_is false lost refl)
 
 pub book-after : (m : TextMap) (log : List Event) (k : Handle) (gained lost : ℕ) → HandlesDiffer m → IsLegalFrom m log → list_any (λ (e : Event). is_kill e.what) log ≡ false →
     Book m k gained lost → Book (map_after m log) k (gained + gains log k) (lost + losses log k)
@@ -336,6 +337,7 @@ counted_kill table now seat (Unlink x) counted may = refl
 counted_kill table now seat ResizeTaken counted may = refl
 counted_kill table now seat ResizeGiven counted may = refl
 counted_kill table now seat (Level l) counted may = refl
+counted_kill table now seat (Rehash n) counted may = refl
 
 none_kills : (table : TableKind) (now : Now) (log : List Event) → table.kind ≡ Counted → IsAllowedFrom table now log → list_any (λ (e : Event). is_kill e.what) log ≡ false
 none_kills table now [] counted allowed = refl

@@ -22,3 +22,4 @@ pub mod CallerSums
 pub mod CallerHolds
 pub mod SlotBucketLaws
 pub mod WorkedLogLaws
+pub mod SeededLaws

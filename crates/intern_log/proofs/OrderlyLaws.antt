@@ -9,7 +9,7 @@ use Rattle.std.proofs.lemmas.List.Folds.{list_any-append}
 use Rattle.std.proofs.lemmas.List.Sums.{sum_by-cons}
 use Rattle.intern_log.specs.declared.event.Event.{Event}
 use Rattle.intern_log.specs.declared.event.What.{What}
-use Rattle.intern_log.specs.declared.event.What.TheVariants.{Create, Take, Found, Drop, Perm, Kill, Claim, Free, Open, Close, Grace, Lock, Unlock, Unlink, ResizeTaken, ResizeGiven, Level}
+use Rattle.intern_log.specs.declared.event.What.TheVariants.{Create, Take, Found, Drop, Perm, Kill, Claim, Free, Open, Close, Grace, Lock, Unlock, Unlink, ResizeTaken, ResizeGiven, Level, Rehash}
 use Rattle.intern_log.specs.Counts.{events_in}
 use Rattle.intern_log.specs.Now.{Unlinked, OpenSection, Resizing, Now, owner_of, opening, changed_by, now_after_event, now_after, with_lock}
 use Rattle.intern_log.specs.declared.event.TableKind.{TableKind}
@@ -72,7 +72,7 @@ lock_was_taken table row bucket k = carried table (λ done now. now.lock row buc
     (λ made none is. (done, [], event_is e k (Lock row bucket) made (one_seat e.seat k is) done, refl))
     (λ ended is. absurd (cc)))
 
-free_has_none : (o : Option Resizing) (k : ℕ) → o ≡ None → owner_of o ≡ Some k → ⊥
+pub free_has_none : (o : Option Resizing) (k : ℕ) → o ≡ None → owner_of o ≡ Some k → ⊥
 free_has_none o k free is = let none : owner_of o ≡ None = ap owner_of free in absurd (cc)
 
 -- the resize lock stays with its owner until it is given back
@@ -111,6 +111,7 @@ graces-event now seat (Unlink x) = omega arith
 graces-event now seat ResizeTaken = omega arith
 graces-event now seat ResizeGiven = omega arith
 graces-event now seat (Level l) = omega arith
+graces-event now seat (Rehash n) = omega arith
 
 pub level-event : (now : Now) (seat : ℕ) (what : What) → (changed_by now seat what).level ≡ level_after_event now.level what
 level-event now seat (Create t h) = refl
@@ -130,6 +131,7 @@ level-event now seat (Unlink x) = refl
 level-event now seat ResizeTaken = refl
 level-event now seat ResizeGiven = refl
 level-event now seat (Level l) = refl
+level-event now seat (Rehash n) = refl
 
 -- the graces of a log are counted, and its level is that of its last Level
 graces_are : (now : Now) (log : List Event) → (now_after now log).graces ≡ now.graces + events_in is_grace log
@@ -149,24 +151,24 @@ locked_there lock row bucket k =
     ap (λ b. cond (b && nat_eq bucket bucket) (Some k) (lock row bucket)) ((Decides-eqb row row).1 refl)
     ∙ ap (λ b. cond b (Some k) (lock row bucket)) ((Decides-eqb bucket bucket).1 refl)
 
-none_locked : (o : Option ℕ) (k : ℕ) → o ≡ None → o ≡ Some k → ⊥
+pub none_locked : (o : Option ℕ) (k : ℕ) → o ≡ None → o ≡ Some k → ⊥
 none_locked o k free is = cc
 
-closed_is_closed : (section : Option OpenSection) (o : OpenSection) → section ≡ None → section ≡ Some o → ⊥
+pub closed_is_closed : (section : Option OpenSection) (o : OpenSection) → section ≡ None → section ≡ Some o → ⊥
 closed_is_closed section o closed is = cc
 
 bounded : (counter first graces count : ℕ) → graces ≡ 0 + count → counter ≤ first + 2 * graces → counter ≤ first + 2 * count
 bounded counter first graces count is within = omega (arith, is, within)
 
 -- what a log says where the resize lock is had, and where a bucket is locked
-owner_is : (table : TableKind) (now : Now) (log : List Event) (k : ℕ) → IsAllowedFrom table now log → HasResizeLock log k → owner_of (now_after now log).resizing ≡ Some k
+pub owner_is : (table : TableKind) (now : Now) (log : List Event) (k : ℕ) → IsAllowedFrom table now log → HasResizeLock log k → owner_of (now_after now log).resizing ≡ Some k
 owner_is table now log k allowed (front, back, is, kept) =
     let whole = subst (IsAllowedFrom table now) is allowed in
     let taken = now_after_event (now_after now front) (record { seat = k; what = ResizeTaken }) in
     ap (λ (n : Now). owner_of n.resizing) (ap (now_after now) is ∙ said now front k ResizeTaken back)
     ∙ owned_until_given table taken back k refl (IsAllowedFrom-rest table now front _ whole).1 kept
 
-lock_is : (table : TableKind) (now : Now) (log : List Event) (row bucket k : ℕ) → IsAllowedFrom table now log → IsLockedBy log row bucket k → (now_after now log).lock row bucket ≡ Some k
+pub lock_is : (table : TableKind) (now : Now) (log : List Event) (row bucket k : ℕ) → IsAllowedFrom table now log → IsLockedBy log row bucket k → (now_after now log).lock row bucket ≡ Some k
 lock_is table now log row bucket k allowed (front, back, is, kept) =
     let whole = subst (IsAllowedFrom table now) is allowed in
     let locked = now_after_event (now_after now front) (record { seat = k; what = Lock row bucket }) in
@@ -185,7 +187,7 @@ unlinked_is table now log before since k s allowed is kept =
     ∙ unlinked_until_free table unlinked since s k place there (IsAllowedFrom-rest table now before _ whole).1 kept
 
 -- an event of a lawful log may follow what is before it, and that is allowed
-at_event : (table : TableKind) (log front back : List Event) (k : ℕ) (what : What) → IsLawful table log → log ≡ with_event front k what back →
+pub at_event : (table : TableKind) (log front back : List Event) (k : ℕ) (what : What) → IsLawful table log → log ≡ with_event front k what back →
     IsAllowedFrom table (opening table.min_level) front × MayFollow table (now_after (opening table.min_level) front) k what
 at_event table log front back k what lawful is =
     let whole = subst (IsAllowedFrom table (opening table.min_level)) is lawful.allowed in

@@ -8,7 +8,7 @@ use Rattle.std.specs.Ordering.{nat_cmp}
 use Rattle.std.specs.FinMap as finite
 use Rattle.intern_log.specs.declared.event.Entry.{Entry}
 use Rattle.intern_log.specs.declared.event.What.{What}
-use Rattle.intern_log.specs.declared.event.What.TheVariants.{Create, Take, Found, Drop, Perm, Kill, Claim, Free, Open, Close, Grace, Lock, Unlock, Unlink, ResizeTaken, ResizeGiven, Level}
+use Rattle.intern_log.specs.declared.event.What.TheVariants.{Create, Take, Found, Drop, Perm, Kill, Claim, Free, Open, Close, Grace, Lock, Unlock, Unlink, ResizeTaken, ResizeGiven, Level, Rehash}
 use Rattle.intern_log.specs.TextMap.{TextMap, no_texts, entry_of, live_texts, put_at, altered, alter, at_handle}
 use Rattle.intern_log.specs.Log.{next, new_entry, raised, lowered, made_permanent}
 use Rattle.intern_log.specs.PlainLogs.{slots_taken}
@@ -60,6 +60,7 @@ len-next m (Unlink s) = omega arith
 len-next m ResizeTaken = omega arith
 len-next m ResizeGiven = omega arith
 len-next m (Level l) = omega arith
+len-next m (Rehash n) = omega arith
 
 -- an event makes as many more live texts as it takes slots, at most
 pub length-live_texts-next : (m : TextMap) (what : What) → length (live_texts (next m what)) ≤ length (live_texts m) + slots_taken what

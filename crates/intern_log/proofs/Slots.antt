@@ -7,7 +7,7 @@ use Rattle.std.proofs.lemmas.Bool.Decides.{Decides-eqb}
 use Rattle.intern_log.specs.declared.event.Handle.{Handle}
 use Rattle.intern_log.specs.declared.event.Event.{Event}
 use Rattle.intern_log.specs.declared.event.What.{What}
-use Rattle.intern_log.specs.declared.event.What.TheVariants.{Create, Take, Found, Drop, Perm, Kill, Claim, Free, Open, Close, Grace, Lock, Unlock, Unlink, ResizeTaken, ResizeGiven, Level}
+use Rattle.intern_log.specs.declared.event.What.TheVariants.{Create, Take, Found, Drop, Perm, Kill, Claim, Free, Open, Close, Grace, Lock, Unlock, Unlink, ResizeTaken, ResizeGiven, Level, Rehash}
 use Rattle.intern_log.proofs.Handles.{both_hold}
 use Rattle.intern_log.specs.Now.{Phase, Vacant, Claimed, Linked, Unlinked, OpenSection, Resizing, Now, owner_of, resizing_after_lock, opening, changed_by, now_after_event, now_after}
 use Rattle.intern_log.specs.declared.event.TableKind.{TableKind}
@@ -52,6 +52,7 @@ slot_after P table now seat (Unlock r b) s may stays created claimed freed unlin
 slot_after P table now seat ResizeTaken s may stays created claimed freed unlinked = stays refl refl
 slot_after P table now seat ResizeGiven s may stays created claimed freed unlinked = stays refl refl
 slot_after P table now seat (Level l) s may stays created claimed freed unlinked = stays refl refl
+slot_after P table now seat (Rehash n) s may stays created claimed freed unlinked = stays refl refl
 
 -- the same of the section of a number
 pub section_after : (P : Option OpenSection → Type 0) (table : TableKind) (now : Now) (seat : ℕ) (what : What) (k : ℕ) → MayFollow table now seat what →
@@ -77,6 +78,7 @@ section_after P table now seat (Unlink x) k may stays opened closed = stays refl
 section_after P table now seat ResizeTaken k may stays opened closed = stays refl
 section_after P table now seat ResizeGiven k may stays opened closed = stays refl
 section_after P table now seat (Level l) k may stays opened closed = stays refl
+section_after P table now seat (Rehash n) k may stays opened closed = stays refl
 
 -- two Locks of one bucket
 same_lock : (row bucket r b : ℕ) → (nat_eq row r && nat_eq bucket b) ≡ true → Lock r b ≡ Lock row bucket
@@ -113,6 +115,7 @@ lock_after P table now seat Grace row bucket may stays locked ended = stays refl
 lock_after P table now seat (Unlink x) row bucket may stays locked ended = stays refl
 lock_after P table now seat ResizeTaken row bucket may stays locked ended = stays refl
 lock_after P table now seat ResizeGiven row bucket may stays locked ended = stays refl
+lock_after P table now seat (Rehash n) row bucket may stays locked ended = stays refl
 
 -- the owner after a Lock
 pub same_owner : (P : Option ℕ → Type 0) (seat row : ℕ) (resizing : Option Resizing) → P (owner_of resizing) → P (owner_of (option_map (resizing_after_lock seat row) resizing))
@@ -142,6 +145,7 @@ owner_after P table now seat Grace may stays taken given = stays refl
 owner_after P table now seat (Unlock r b) may stays taken given = stays refl
 owner_after P table now seat (Unlink x) may stays taken given = stays refl
 owner_after P table now seat (Level l) may stays taken given = stays refl
+owner_after P table now seat (Rehash n) may stays taken given = stays refl
 
 pub neither : (b c : Bool) → (b || c) ≡ false → (b ≡ false) × (c ≡ false)
 neither true c none = absurd (cc)

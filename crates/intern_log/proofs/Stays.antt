@@ -3,13 +3,13 @@ use Rattle.std.proofs.Common.{◌≡◌, ℕ, Bool, true, false, cond, not, ◌&
 use Rattle.std.specs.Prelude.{nat_eq}
 use Rattle.intern_log.specs.declared.event.Event.{Event}
 use Rattle.intern_log.specs.declared.event.What.{What}
-use Rattle.intern_log.specs.declared.event.What.TheVariants.{Create, Take, Found, Drop, Perm, Kill, Claim, Free, Open, Close, Grace, Lock, Unlock, Unlink, ResizeTaken, ResizeGiven, Level}
+use Rattle.intern_log.specs.declared.event.What.TheVariants.{Create, Take, Found, Drop, Perm, Kill, Claim, Free, Open, Close, Grace, Lock, Unlock, Unlink, ResizeTaken, ResizeGiven, Level, Rehash}
 use Rattle.intern_log.specs.TextMap.{TextMap}
 use Rattle.intern_log.specs.Log.{next, map_of}
 use Rattle.intern_log.specs.Own.{is_visible}
 use Rattle.intern_log.specs.Now.{Now, owner_of, changed_by}
 use Rattle.intern_log.specs.Orderly.{is_grace}
-use Rattle.intern_log.specs.Touches.{touches_slot, touches_section, touches_lock, touches_owner, touches_resizing, is_level}
+use Rattle.intern_log.specs.Touches.{touches_slot, touches_section, touches_lock, touches_owner, touches_resizing, is_level, is_rehash}
 use Rattle.intern_log.proofs.OneMore.{map_of-one_more}
 use Rattle.intern_log.proofs.Slots.{same_owner}
 
@@ -62,6 +62,10 @@ since_unchanged now seat _ other = refl
 pub graces_unchanged : (now : Now) (seat : ℕ) (what : What) → is_grace what ≡ false → (changed_by now seat what).graces ≡ now.graces
 graces_unchanged now seat Grace other = absurd (cc)
 graces_unchanged now seat _ other = refl
+
+pub seed_unchanged : (now : Now) (seat : ℕ) (what : What) → is_rehash what ≡ false → (changed_by now seat what).seed ≡ now.seed
+seed_unchanged now seat (Rehash n) other = absurd (cc)
+seed_unchanged now seat _ other = refl
 
 pub next_unchanged : (m : TextMap) (what : What) → is_visible what ≡ false → next m what ≡ m
 next_unchanged m (Create t h) unseen = absurd (cc)

@@ -6,7 +6,7 @@ use Rattle.intern_log.specs.declared.event.Event.{Event}
 use Rattle.intern_log.specs.declared.event.Kind.TheVariants.{Counted, Weak}
 use Rattle.intern_log.specs.declared.event.TableKind.{TableKind}
 use Rattle.intern_log.specs.declared.event.What.{What}
-use Rattle.intern_log.specs.declared.event.What.TheVariants.{Create, Take, Found, Drop, Perm, Kill, Claim, Free, Open, Close, Grace, Lock, Unlock, Unlink, ResizeTaken, ResizeGiven, Level}
+use Rattle.intern_log.specs.declared.event.What.TheVariants.{Create, Take, Found, Drop, Perm, Kill, Claim, Free, Open, Close, Grace, Lock, Unlock, Unlink, ResizeTaken, ResizeGiven, Level, Rehash}
 use Rattle.intern_log.specs.TextMap.{IsLive}
 use Rattle.intern_log.specs.Log.{Allows, creates, IsFresh}
 use Rattle.intern_log.specs.Now.{Phase, Vacant, Claimed, Linked, Unlinked, OpenSection, Resizing, Now, now_after_event, opening}
@@ -31,6 +31,13 @@ abbrev pub IsLinkedDead : Now → Phase → Type 0
 IsLinkedDead now (Linked text h born) = ¬ (IsLive now.texts h)
 IsLinkedDead now _ = ⊥
 
+-- nothing is going on: no section is open, no bucket is locked, nobody has the resize lock, and no slot is in a chain with its entry gone
+pub record IsQuiet (now : Now) : Type 0 where
+  pub sections : (seat : ℕ) → now.section seat ≡ None
+  pub locks : (row bucket : ℕ) → now.lock row bucket ≡ None
+  pub resizing : now.resizing ≡ None
+  pub dead : (s : ℕ) → ¬ (IsLinkedDead now (now.slot s))
+
 -- the log allows the event at its end
 abbrev pub MayFollow : TableKind → Now → ℕ → What → Type 0
 MayFollow table now seat (Create text h) = Allows now.texts (Create text h) × (now.slot h.slot ≡ Claimed seat)
@@ -50,6 +57,7 @@ MayFollow table now seat (Unlink s) = IsLinkedDead now (now.slot s)
 MayFollow table now seat ResizeTaken = now.resizing ≡ None
 MayFollow table now seat ResizeGiven = IsResizing now seat × ((s place : ℕ) → now.slot s ≡ Unlinked seat place → ⊥)
 MayFollow table now seat (Level level) = IsResizing now seat × ((level ≡ now.level + 1) ⊎ (now.level ≡ level + 1)) × (table.min_level ≤ level) × (level ≤ table.max_level)
+MayFollow table now seat (Rehash seed) = (seat ≡ 0) × (seed ≡ now.seed + 1) × (seed ≤ 2) × IsQuiet now
 
 -- each event may follow what comes before it
 abbrev pub IsAllowedFrom : TableKind → Now → List Event → Type 0

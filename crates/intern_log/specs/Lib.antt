@@ -11,6 +11,7 @@ pub mod Now
 pub mod Lawful
 pub mod Sections
 pub mod Orderly
+pub mod Seeded
 pub mod Ledger
 pub mod Kept
 pub mod Faults

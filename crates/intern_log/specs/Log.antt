@@ -7,7 +7,7 @@ use Rattle.intern_log.specs.declared.event.Handle.{Handle}
 use Rattle.intern_log.specs.declared.event.Entry.{Entry}
 use Rattle.intern_log.specs.declared.event.Event.{Event}
 use Rattle.intern_log.specs.declared.event.What.{What}
-use Rattle.intern_log.specs.declared.event.What.TheVariants.{Create, Take, Found, Drop, Perm, Kill}
+use Rattle.intern_log.specs.declared.event.What.TheVariants.{Create, Take, Found, Drop, Perm, Kill, Claim, Free, Open, Close, Grace, Lock, Unlock, Unlink, ResizeTaken, ResizeGiven, Level, Rehash}
 use Rattle.intern_log.specs.declared.event.TheConstants.{PERMANENT}
 use Rattle.intern_log.specs.TextMap.{TextMap, no_texts, entry_of, handle_eq, HasHandle, IsLive, put_at, alter, at_handle}
 
@@ -34,7 +34,19 @@ next m (Take text h) = put_at m text (option_map raised (entry_of m text))
 next m (Drop h) = alter (at_handle h lowered) m
 next m (Perm h) = alter (at_handle h (λ e. Some (made_permanent e))) m
 next m (Kill h) = alter (at_handle h (λ e. None)) m
-next m _ = m
+next m (Found text h) = m
+next m (Claim x) = m
+next m (Free x) = m
+next m (Open counter) = m
+next m Close = m
+next m Grace = m
+next m (Lock r b) = m
+next m (Unlock r b) = m
+next m (Unlink x) = m
+next m ResizeTaken = m
+next m ResizeGiven = m
+next m (Level l) = m
+next m (Rehash n) = m
 
 -- the same, text by text: what an event makes of the entry of one text
 abbrev pub entry_after : What → List ℕ → Option Entry → Option Entry
@@ -43,7 +55,19 @@ entry_after (Take text h) t entry = if bytes_eq t text then option_map raised en
 entry_after (Drop h) t entry = option_and_then (at_handle h lowered) entry
 entry_after (Perm h) t entry = option_and_then (at_handle h (λ e. Some (made_permanent e))) entry
 entry_after (Kill h) t entry = option_and_then (at_handle h (λ e. None)) entry
-entry_after _ t entry = entry
+entry_after (Found text h) t entry = entry
+entry_after (Claim x) t entry = entry
+entry_after (Free x) t entry = entry
+entry_after (Open counter) t entry = entry
+entry_after Close t entry = entry
+entry_after Grace t entry = entry
+entry_after (Lock r b) t entry = entry
+entry_after (Unlock r b) t entry = entry
+entry_after (Unlink x) t entry = entry
+entry_after ResizeTaken t entry = entry
+entry_after ResizeGiven t entry = entry
+entry_after (Level l) t entry = entry
+entry_after (Rehash n) t entry = entry
 
 -- the map allows the event: a Create of a text that is not live, by a handle of no entry; a Take or Found of a
 -- text with its handle; a Drop, Perm or Kill of a live handle; and each event that callers do not see
@@ -54,7 +78,18 @@ Allows m (Found text h) = HasHandle m text h
 Allows m (Drop h) = IsLive m h
 Allows m (Perm h) = IsLive m h
 Allows m (Kill h) = IsLive m h
-Allows m _ = Unit {0}
+Allows m (Claim x) = Unit {0}
+Allows m (Free x) = Unit {0}
+Allows m (Open counter) = Unit {0}
+Allows m Close = Unit {0}
+Allows m Grace = Unit {0}
+Allows m (Lock r b) = Unit {0}
+Allows m (Unlock r b) = Unit {0}
+Allows m (Unlink x) = Unit {0}
+Allows m ResizeTaken = Unit {0}
+Allows m ResizeGiven = Unit {0}
+Allows m (Level l) = Unit {0}
+Allows m (Rehash n) = Unit {0}
 
 -- the map after a list of events, and what a whole log stands for
 abbrev pub map_after : TextMap → List Event → TextMap

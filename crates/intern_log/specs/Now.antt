@@ -1,10 +1,10 @@
--- What a log stands for at its end: the map, the slots, the open sections, the locks, the level and the graces.
+-- What a log stands for at its end: the map, the slots, the open sections, the locks, the level, the graces and the seed.
 use Rattle.std.specs.Prelude.{ℕ, ◌+◌, Bool, false, not, ◌&&◌, ◌||◌, if◌then◌else◌, nat_eq, List, [], ◌∷◌, Option, Some, None}
 use Rattle.std.specs.Option.{option_map}
 use Rattle.intern_log.specs.declared.event.Handle.{Handle}
 use Rattle.intern_log.specs.declared.event.Event.{Event}
 use Rattle.intern_log.specs.declared.event.What.{What}
-use Rattle.intern_log.specs.declared.event.What.TheVariants.{Create, Claim, Free, Open, Close, Grace, Lock, Unlock, Unlink, ResizeTaken, ResizeGiven, Level}
+use Rattle.intern_log.specs.declared.event.What.TheVariants.{Create, Take, Found, Drop, Perm, Kill, Claim, Free, Open, Close, Grace, Lock, Unlock, Unlink, ResizeTaken, ResizeGiven, Level, Rehash}
 use Rattle.intern_log.specs.TextMap.{TextMap, no_texts}
 use Rattle.intern_log.specs.Log.{next}
 
@@ -38,6 +38,7 @@ pub record Now : Type 0 where
   pub level : ℕ
   pub since : ℕ
   pub graces : ℕ
+  pub seed : ℕ
 
 -- the seat that has the resize lock
 abbrev pub owner_of : Option Resizing → Option ℕ
@@ -59,7 +60,7 @@ with_lock lock row bucket owner r b = if nat_eq r row && nat_eq b bucket then ow
 abbrev pub locks_of_row : (ℕ → ℕ → Option ℕ) → ℕ → ℕ → ℕ → Option ℕ
 locks_of_row lock row r b = if nat_eq r row then lock r b else None
 
--- before the first event, at the least level
+-- before the first event, at the least level and by seed 0
 abbrev pub opening : ℕ → Now
 opening min_level = record {
   place = 0;
@@ -71,6 +72,7 @@ opening min_level = record {
   level = min_level;
   since = 0;
   graces = 0;
+  seed = 0;
 }
 
 -- what one event changes beside the map and the place
@@ -90,7 +92,12 @@ changed_by now seat (Unlock row bucket) = record now { lock = with_lock now.lock
 changed_by now seat ResizeTaken = record now { resizing = Some (record { seat = seat; place = now.place; level = now.level; replacing = false }) }
 changed_by now seat ResizeGiven = record now { resizing = None }
 changed_by now seat (Level level) = record now { level = level; since = now.place + 1; lock = locks_of_row now.lock level }
-changed_by now seat _ = now
+changed_by now seat (Rehash seed) = record now { seed = seed }
+changed_by now seat (Take text h) = now
+changed_by now seat (Found text h) = now
+changed_by now seat (Drop h) = now
+changed_by now seat (Perm h) = now
+changed_by now seat (Kill h) = now
 
 -- after one more event
 abbrev pub now_after_event : Now → Event → Now

@@ -5,7 +5,7 @@ use Rattle.intern_log.specs.declared.event.Handle.{Handle}
 use Rattle.intern_log.specs.declared.event.Event.{Event}
 use Rattle.intern_log.specs.declared.event.Kind.TheVariants.{Counted, Weak}
 use Rattle.intern_log.specs.declared.event.What.{What}
-use Rattle.intern_log.specs.declared.event.What.TheVariants.{Take, Found, Drop, Perm, Kill, Open, Close, Grace, Lock, Unlock, Unlink, ResizeTaken, ResizeGiven, Level}
+use Rattle.intern_log.specs.declared.event.What.TheVariants.{Create, Take, Found, Drop, Perm, Kill, Claim, Free, Open, Close, Grace, Lock, Unlock, Unlink, ResizeTaken, ResizeGiven, Level, Rehash}
 use Rattle.intern_log.specs.Counts.{events_in}
 use Rattle.intern_log.specs.declared.event.TableKind.{TableKind}
 use Rattle.intern_log.specs.Sections.{some_frees, with_event, IsOpenIn}
@@ -22,7 +22,22 @@ is_resize_given _ = false
 abbrev pub ends_lock : ℕ → ℕ → What → Bool
 ends_lock row bucket (Unlock r b) = nat_eq row r && nat_eq bucket b
 ends_lock row bucket (Level level) = not (nat_eq row level)
-ends_lock row bucket _ = false
+ends_lock row bucket (Create text h) = false
+ends_lock row bucket (Take text h) = false
+ends_lock row bucket (Found text h) = false
+ends_lock row bucket (Drop h) = false
+ends_lock row bucket (Perm h) = false
+ends_lock row bucket (Kill h) = false
+ends_lock row bucket (Claim x) = false
+ends_lock row bucket (Free x) = false
+ends_lock row bucket (Open counter) = false
+ends_lock row bucket Close = false
+ends_lock row bucket Grace = false
+ends_lock row bucket (Lock r b) = false
+ends_lock row bucket (Unlink x) = false
+ends_lock row bucket ResizeTaken = false
+ends_lock row bucket ResizeGiven = false
+ends_lock row bucket (Rehash n) = false
 
 abbrev pub some_ends_lock : ℕ → ℕ → List Event → Bool
 some_ends_lock row bucket log = list_any (λ (e : Event). ends_lock row bucket e.what) log
@@ -38,7 +53,23 @@ IsLockedBy log row bucket k = (front back : List Event) × (log ≡ with_event f
 -- the level that an event leaves, and that of the last Level, or the one before the log where there is none
 abbrev pub level_after_event : ℕ → What → ℕ
 level_after_event level (Level l) = l
-level_after_event level _ = level
+level_after_event level (Create text h) = level
+level_after_event level (Take text h) = level
+level_after_event level (Found text h) = level
+level_after_event level (Drop h) = level
+level_after_event level (Perm h) = level
+level_after_event level (Kill h) = level
+level_after_event level (Claim x) = level
+level_after_event level (Free x) = level
+level_after_event level (Open counter) = level
+level_after_event level Close = level
+level_after_event level Grace = level
+level_after_event level (Lock r b) = level
+level_after_event level (Unlock r b) = level
+level_after_event level (Unlink x) = level
+level_after_event level ResizeTaken = level
+level_after_event level ResizeGiven = level
+level_after_event level (Rehash n) = level
 
 abbrev pub level_after : ℕ → List Event → ℕ
 level_after level [] = level

@@ -4,22 +4,70 @@ use Rattle.std.specs.List.{list_any}
 use Rattle.intern_log.specs.declared.event.Handle.{Handle}
 use Rattle.intern_log.specs.declared.event.Event.{Event}
 use Rattle.intern_log.specs.declared.event.What.{What}
-use Rattle.intern_log.specs.declared.event.What.TheVariants.{Create, Claim, Free, Open, Close, Unlink}
+use Rattle.intern_log.specs.declared.event.What.TheVariants.{Create, Take, Found, Drop, Perm, Kill, Claim, Free, Open, Close, Grace, Lock, Unlock, Unlink, ResizeTaken, ResizeGiven, Level, Rehash}
 use Rattle.intern_log.specs.TextMap.{IsLive}
 use Rattle.intern_log.specs.Log.{map_of}
 
 -- whether the event gives the slot back, takes it out of its chain, or closes the section of the number
 abbrev pub frees : ℕ → What → Bool
 frees s (Free x) = nat_eq s x
-frees s _ = false
+frees s (Create text h) = false
+frees s (Take text h) = false
+frees s (Found text h) = false
+frees s (Drop h) = false
+frees s (Perm h) = false
+frees s (Kill h) = false
+frees s (Claim x) = false
+frees s (Open counter) = false
+frees s Close = false
+frees s Grace = false
+frees s (Lock r b) = false
+frees s (Unlock r b) = false
+frees s (Unlink x) = false
+frees s ResizeTaken = false
+frees s ResizeGiven = false
+frees s (Level l) = false
+frees s (Rehash n) = false
 
 abbrev pub unlinks : ℕ → What → Bool
 unlinks s (Unlink x) = nat_eq s x
-unlinks s _ = false
+unlinks s (Create text h) = false
+unlinks s (Take text h) = false
+unlinks s (Found text h) = false
+unlinks s (Drop h) = false
+unlinks s (Perm h) = false
+unlinks s (Kill h) = false
+unlinks s (Claim x) = false
+unlinks s (Free x) = false
+unlinks s (Open counter) = false
+unlinks s Close = false
+unlinks s Grace = false
+unlinks s (Lock r b) = false
+unlinks s (Unlock r b) = false
+unlinks s ResizeTaken = false
+unlinks s ResizeGiven = false
+unlinks s (Level l) = false
+unlinks s (Rehash n) = false
 
 abbrev pub closes : ℕ → ℕ → What → Bool
 closes k seat Close = nat_eq k seat
-closes k seat _ = false
+closes k seat (Create text h) = false
+closes k seat (Take text h) = false
+closes k seat (Found text h) = false
+closes k seat (Drop h) = false
+closes k seat (Perm h) = false
+closes k seat (Kill h) = false
+closes k seat (Claim x) = false
+closes k seat (Free x) = false
+closes k seat (Open counter) = false
+closes k seat Grace = false
+closes k seat (Lock r b) = false
+closes k seat (Unlock r b) = false
+closes k seat (Unlink x) = false
+closes k seat ResizeTaken = false
+closes k seat ResizeGiven = false
+closes k seat (Level l) = false
+closes k seat (Rehash n) = false
 
 -- whether one of the events does
 abbrev pub some_frees : ℕ → List Event → Bool

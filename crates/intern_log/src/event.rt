@@ -89,6 +89,8 @@ pub enum What {
     ResizeGiven,
     /// The level was stored.
     Level(u8),
+    /// The hashes and the chains were made anew with this seed.
+    Rehash { seed: u32 },
 }
 
 /// One event of a table's log: which seat made the step, by its number, and what happened.

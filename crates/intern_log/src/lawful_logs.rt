@@ -13,6 +13,7 @@ ghost use Rattle.intern_log.specs.declared.event.TableKind.{TableKind};
 ghost use Rattle.intern_log.specs.Lawful.{IsLawful};
 ghost use Rattle.intern_log.specs.Sections.{IsGraced, IsCareful};
 ghost use Rattle.intern_log.specs.Orderly.{IsOrderly};
+ghost use Rattle.intern_log.specs.Seeded.{IsSeeded};
 ghost use Rattle.intern_log.specs.Ledger.{MeetsLedger};
 
 /// A lawful log is legal.
@@ -45,6 +46,11 @@ pub fn lawful_logs_are_orderly()
     ensures law { (table : TableKind) (log : List Event) → IsLawful table log → IsOrderly table log }
 {}
 
+/// In a lawful log the seed rises one by one, by number 0, and only where nothing is going on.
+pub fn lawful_logs_are_seeded()
+    ensures law { (table : TableKind) (log : List Event) → IsLawful table log → IsSeeded log }
+{}
+
 /// In a lawful Counted log the count of an entry is what all callers hold.
 pub fn lawful_logs_meet_the_ledger()
     ensures law { (table : TableKind) (log : List Event) → table.kind ≡ Counted → IsLawful table log → MeetsLedger log }
@@ -73,6 +79,7 @@ mod tests {
         lawful_logs_are_graced();
         lawful_logs_are_careful();
         lawful_logs_are_orderly();
+        lawful_logs_are_seeded();
         lawful_logs_meet_the_ledger();
         held_handles_are_live();
         gone_handles_never_come_back();

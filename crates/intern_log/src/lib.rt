@@ -20,6 +20,7 @@ pub mod lawful_logs;
 pub mod laws;
 pub mod replay;
 pub mod resize_laws;
+pub mod seed_laws;
 pub mod stays_laws;
 pub mod text;
 pub mod window_laws;

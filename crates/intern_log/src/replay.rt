@@ -100,7 +100,18 @@ impl Replay {
                 self.has_handle(text.bytes(), *handle)
             }
             What::Drop(handle) | What::Perm(handle) | What::Kill(handle) => self.is_live(*handle),
-            _ => true,
+            What::Claim(_)
+            | What::Free(_)
+            | What::Open(_)
+            | What::Close
+            | What::Grace
+            | What::Lock(..)
+            | What::Unlock(..)
+            | What::Unlink(_)
+            | What::ResizeTaken
+            | What::ResizeGiven
+            | What::Level(_)
+            | What::Rehash { .. } => true,
         }
     }
 
@@ -119,7 +130,19 @@ impl Replay {
             }
             What::Perm(handle) => self.make_permanent(*handle),
             What::Kill(handle) => self.remove(*handle),
-            _ => {}
+            What::Found(..)
+            | What::Claim(_)
+            | What::Free(_)
+            | What::Open(_)
+            | What::Close
+            | What::Grace
+            | What::Lock(..)
+            | What::Unlock(..)
+            | What::Unlink(_)
+            | What::ResizeTaken
+            | What::ResizeGiven
+            | What::Level(_)
+            | What::Rehash { .. } => {}
         }
         Ok(())
     }

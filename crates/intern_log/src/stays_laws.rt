@@ -6,7 +6,7 @@ ghost use Rattle.intern_log.specs.Log.{map_of};
 ghost use Rattle.intern_log.specs.Own.{is_visible};
 ghost use Rattle.intern_log.specs.Now.{Now, owner_of, now_after_event};
 ghost use Rattle.intern_log.specs.Orderly.{is_grace};
-ghost use Rattle.intern_log.specs.Touches.{touches_slot, touches_section, touches_lock, touches_owner, touches_resizing, is_level};
+ghost use Rattle.intern_log.specs.Touches.{touches_slot, touches_section, touches_lock, touches_owner, touches_resizing, is_level, is_rehash};
 
 /// The phase of a slot, after an event that is no Create, Claim, Free or Unlink of it.
 pub fn slot_stays()
@@ -48,6 +48,11 @@ pub fn graces_stay()
     ensures law { (now : Now) (e : Event) → is_grace e.what ≡ false → (now_after_event now e).graces ≡ now.graces }
 {}
 
+/// The seed, after an event that is no Rehash.
+pub fn seed_stays()
+    ensures law { (now : Now) (e : Event) → is_rehash e.what ≡ false → (now_after_event now e).seed ≡ now.seed }
+{}
+
 /// The map, after an event that callers do not see.
 pub fn map_stays()
     ensures law { (log : List Event) (e : Event) → is_visible e.what ≡ false → map_of (log ++ e ∷ []) ≡ map_of log }
@@ -72,6 +77,7 @@ mod tests {
         level_stays();
         since_stays();
         graces_stay();
+        seed_stays();
         map_stays();
         texts_stay();
     }

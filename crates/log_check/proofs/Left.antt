@@ -6,7 +6,7 @@ use Rattle.std.proofs.lemmas.Bool.Decides.{Decides-eqb, Decides-ltb}
 use borrow.Author.Tests.{ltb-true}
 use Rattle.intern_log.specs.declared.event.Event.{Event}
 use Rattle.intern_log.specs.declared.event.What.{What}
-use Rattle.intern_log.specs.declared.event.What.TheVariants.{Create, Take, Found, Drop, Perm, Kill, Claim, Free, Open, Close, Grace, Lock, Unlock, Unlink, ResizeTaken, ResizeGiven, Level}
+use Rattle.intern_log.specs.declared.event.What.TheVariants.{Create, Take, Found, Drop, Perm, Kill, Claim, Free, Open, Close, Grace, Lock, Unlock, Unlink, ResizeTaken, ResizeGiven, Level, Rehash}
 use Rattle.intern_log.specs.Now.{Phase, Vacant, Claimed, Linked, Unlinked, OpenSection, Now, opening, changed_by, now_after_event, now_after, now_of}
 use Rattle.intern_log.specs.Lawful.{IsGracedSince}
 use Rattle.intern_log.proofs.Slots.{neither}
@@ -107,6 +107,7 @@ unlinked_by_event slot i s p left now seat (Unlock r b) is other = is
 unlinked_by_event slot i s p left now seat ResizeTaken is other = is
 unlinked_by_event slot i s p left now seat ResizeGiven is other = is
 unlinked_by_event slot i s p left now seat (Level l) is other = is
+unlinked_by_event slot i s p left now seat (Rehash n) is other = is
 
 -- a slot that the seat has unlinked at the end, and that no Unlink names, was so before
 unlinked_before : (slot : ℕ → Phase) (i s p : ℕ) → slot s ≡ Unlinked i p → (now : Now) (log : List Event) →

@@ -2,7 +2,7 @@
 use Rattle.std.specs.Prelude.{List, ◌+◌, ◌≤◌, ◌⊎◌, ℕ, ◌≡◌, true, ◌&&◌, Bool, false, if◌then◌else◌, nat_eq, Option, Some, None}
 use Rattle.intern_log.specs.declared.event.Event.{Event}
 use Rattle.intern_log.specs.declared.event.What.{What}
-use Rattle.intern_log.specs.declared.event.What.TheVariants.{Create, Claim, Free, Open, Close, Lock, Unlock, Unlink, ResizeTaken, ResizeGiven, Level}
+use Rattle.intern_log.specs.declared.event.What.TheVariants.{Create, Take, Found, Drop, Perm, Kill, Claim, Free, Open, Close, Grace, Lock, Unlock, Unlink, ResizeTaken, ResizeGiven, Level, Rehash}
 use Rattle.std.specs.List.{list_any}
 use Rattle.intern_log.specs.Log.{creates}
 use Rattle.intern_log.specs.declared.event.Handle.{Handle}
@@ -26,7 +26,20 @@ phase_by slot phase place seat (Create text h) = if nat_eq slot h.slot then Link
 phase_by slot phase place seat (Claim s) = if nat_eq slot s then Claimed seat else phase
 phase_by slot phase place seat (Free s) = if nat_eq slot s then Vacant else phase
 phase_by slot phase place seat (Unlink s) = if nat_eq slot s then Unlinked seat place else phase
-phase_by slot phase place seat _ = phase
+phase_by slot phase place seat (Take text h) = phase
+phase_by slot phase place seat (Found text h) = phase
+phase_by slot phase place seat (Drop h) = phase
+phase_by slot phase place seat (Perm h) = phase
+phase_by slot phase place seat (Kill h) = phase
+phase_by slot phase place seat (Open counter) = phase
+phase_by slot phase place seat Close = phase
+phase_by slot phase place seat Grace = phase
+phase_by slot phase place seat (Lock r b) = phase
+phase_by slot phase place seat (Unlock r b) = phase
+phase_by slot phase place seat ResizeTaken = phase
+phase_by slot phase place seat ResizeGiven = phase
+phase_by slot phase place seat (Level l) = phase
+phase_by slot phase place seat (Rehash n) = phase
 
 abbrev pub phase_step : ℕ → SlotPhase → ℕ × Event → SlotPhase
 phase_step slot phase at = phase_by slot phase at.0 at.1.seat at.1.what
@@ -35,7 +48,22 @@ phase_step slot phase at = phase_by slot phase at.0 at.1.seat at.1.what
 abbrev pub own_section_by : Option ℕ → ℕ → What → Option ℕ
 own_section_by opened place (Open counter) = Some place
 own_section_by opened place Close = None
-own_section_by opened place _ = opened
+own_section_by opened place (Create text h) = opened
+own_section_by opened place (Take text h) = opened
+own_section_by opened place (Found text h) = opened
+own_section_by opened place (Drop h) = opened
+own_section_by opened place (Perm h) = opened
+own_section_by opened place (Kill h) = opened
+own_section_by opened place (Claim x) = opened
+own_section_by opened place (Free x) = opened
+own_section_by opened place Grace = opened
+own_section_by opened place (Lock r b) = opened
+own_section_by opened place (Unlock r b) = opened
+own_section_by opened place (Unlink x) = opened
+own_section_by opened place ResizeTaken = opened
+own_section_by opened place ResizeGiven = opened
+own_section_by opened place (Level l) = opened
+own_section_by opened place (Rehash n) = opened
 
 abbrev pub section_by : ℕ → Option ℕ → ℕ → ℕ → What → Option ℕ
 section_by k opened place seat what = if nat_eq k seat then own_section_by opened place what else opened
@@ -48,7 +76,21 @@ abbrev pub lock_by : ℕ → ℕ → Option ℕ → ℕ → What → Option ℕ
 lock_by row bucket owner seat (Lock r b) = if nat_eq row r && nat_eq bucket b then Some seat else owner
 lock_by row bucket owner seat (Unlock r b) = if nat_eq row r && nat_eq bucket b then None else owner
 lock_by row bucket owner seat (Level level) = if nat_eq row level then owner else None
-lock_by row bucket owner seat _ = owner
+lock_by row bucket owner seat (Create text h) = owner
+lock_by row bucket owner seat (Take text h) = owner
+lock_by row bucket owner seat (Found text h) = owner
+lock_by row bucket owner seat (Drop h) = owner
+lock_by row bucket owner seat (Perm h) = owner
+lock_by row bucket owner seat (Kill h) = owner
+lock_by row bucket owner seat (Claim x) = owner
+lock_by row bucket owner seat (Free x) = owner
+lock_by row bucket owner seat (Open counter) = owner
+lock_by row bucket owner seat Close = owner
+lock_by row bucket owner seat Grace = owner
+lock_by row bucket owner seat (Unlink x) = owner
+lock_by row bucket owner seat ResizeTaken = owner
+lock_by row bucket owner seat ResizeGiven = owner
+lock_by row bucket owner seat (Rehash n) = owner
 
 abbrev pub lock_step : ℕ → ℕ → Option ℕ → Event → Option ℕ
 lock_step row bucket owner e = lock_by row bucket owner e.seat e.what
@@ -57,7 +99,22 @@ lock_step row bucket owner e = lock_by row bucket owner e.seat e.what
 abbrev pub owner_by : Option ℕ → ℕ → What → Option ℕ
 owner_by owner seat ResizeTaken = Some seat
 owner_by owner seat ResizeGiven = None
-owner_by owner seat _ = owner
+owner_by owner seat (Create text h) = owner
+owner_by owner seat (Take text h) = owner
+owner_by owner seat (Found text h) = owner
+owner_by owner seat (Drop h) = owner
+owner_by owner seat (Perm h) = owner
+owner_by owner seat (Kill h) = owner
+owner_by owner seat (Claim x) = owner
+owner_by owner seat (Free x) = owner
+owner_by owner seat (Open counter) = owner
+owner_by owner seat Close = owner
+owner_by owner seat Grace = owner
+owner_by owner seat (Lock r b) = owner
+owner_by owner seat (Unlock r b) = owner
+owner_by owner seat (Unlink x) = owner
+owner_by owner seat (Level l) = owner
+owner_by owner seat (Rehash n) = owner
 
 abbrev pub owner_step : Option ℕ → Event → Option ℕ
 owner_step owner e = owner_by owner e.seat e.what
