@@ -37,7 +37,7 @@ pub(crate) fn references(entries: &Entries) -> u64
 /// The bucket of a text in a row of 2^level.
 fn bucket(level: u8, text: &[u8]) -> u32
     requires { level ≤ 20 }
-    ensures { result ≡ bucket_of level text.now }
+    ensures { result ≡ bucket_of 0 level text.now }
 {
     hash31(text) % 2u32.pow(u32::from(level))
 }
@@ -46,7 +46,7 @@ fn bucket(level: u8, text: &[u8]) -> u32
 fn in_bucket(level: u8, entries: &Entries, number: u32) -> u32
     requires level { level ≤ 20 }
     requires few { length (live_texts (text_map entries.now.entries)) < 2 ^ 32 }
-    ensures { result ≡ count_by (λ text. bucket_of level text.items == number) (keys entries.now) }
+    ensures { result ≡ count_by (λ text. bucket_of 0 level text.items == number) (keys entries.now) }
 {
     let count = entries
         .keys()
@@ -59,7 +59,7 @@ fn in_bucket(level: u8, entries: &Entries, number: u32) -> u32
 fn sharing(level: u8, entries: &Entries, text: &[u8]) -> u32
     requires level { level ≤ 20 }
     requires few { length (live_texts (text_map entries.now.entries)) < 2 ^ 32 }
-    ensures { result ≡ buckets.in_bucket level (map (λ other. other.items) (keys entries.now)) (bucket_of level text.now) }
+    ensures { result ≡ buckets.in_bucket 0 level (map (λ other. other.items) (keys entries.now)) (bucket_of 0 level text.now) }
 {
     in_bucket(level, entries, bucket(level, text))
 }
@@ -68,7 +68,7 @@ fn sharing(level: u8, entries: &Entries, text: &[u8]) -> u32
 pub(crate) fn longest(level: u8, entries: &Entries) -> u32
     requires level { level ≤ 20 }
     requires few { length (live_texts (text_map entries.now.entries)) < 2 ^ 32 }
-    ensures { result ≡ longest_bucket level (live_texts (text_map entries.now.entries)) }
+    ensures { result ≡ longest_bucket 0 level (live_texts (text_map entries.now.entries)) }
 {
     entries.keys().fold(0, |most, text| {
         most.max(sharing(level, entries, text.as_slice()))

@@ -156,7 +156,7 @@ impl Plain {
     /// live. It takes no memory, and the time of one pass over the texts for each of them.
     pub fn longest(&self, level: u8) -> u32
         requires level { level ≤ 20 }
-        ensures longest { result ≡ longest_bucket level (live_texts self.now.texts) }
+        ensures longest { result ≡ longest_bucket 0 level (live_texts self.now.texts) }
     {
         longest(level, self.replay.entries())
     }

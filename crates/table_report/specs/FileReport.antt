@@ -31,7 +31,7 @@ final_literals files hold = flat_map (λ file. finals hold (literals_of file)) f
 abbrev pub settled : ℕ → ℕ → ℕ → List (List ℕ) → ℕ → Statistics2
 settled load min_level max_level live references =
     let level = settle_level load min_level max_level (length live) in
-    record { live = length live; references = references; buckets = 2 ^ level; longest = longest_bucket level live }
+    record { live = length live; references = references; buckets = 2 ^ level; longest = longest_bucket 0 level live }
 
 abbrev pub symbol_counts : List Event → SymbolCounts
 symbol_counts log = record { created = events_in is_create log; taken = events_in is_take log; dropped = events_in is_drop log }

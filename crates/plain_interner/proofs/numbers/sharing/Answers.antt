@@ -10,5 +10,5 @@ count_by-map p h xs = fold-map (λ a x. a + cond (p x) 1 0) h 0 xs
 pub returns : goal.returns
 returns c =
     c.in_bucket.ensures
-    ∙ ap (λ number. count_by (λ k. bucket_of c.args.level k.items == number) (keys c.args.entries.now)) c.bucket.ensures
-    ∙ sym (count_by-map (λ text. bucket_of c.args.level text == bucket_of c.args.level c.args.text.now) (λ k. k.items) (keys c.args.entries.now))
+    ∙ ap (λ number. count_by (λ k. bucket_of 0 c.args.level k.items == number) (keys c.args.entries.now)) c.bucket.ensures
+    ∙ sym (count_by-map (λ text. bucket_of 0 c.args.level text == bucket_of 0 c.args.level c.args.text.now) (λ k. k.items) (keys c.args.entries.now))
