@@ -35,6 +35,11 @@ pub owner_is_seat : (r : Option Resizing) (k : ℕ) → (option_eq nat_eq (seat_
 owner_is_seat None k = ((λ is. absurd (cc)), (λ has. absurd (cc)))
 owner_is_seat (Some r) k = ((λ is. (r, refl, (Decides-eqb r.seat k).0 is)), (λ has. (Decides-eqb r.seat k).1 (one_resizing r has.0 has.1 ∙ has.2)))
 
+-- nobody has it
+pub not_taken : (r : Option Resizing) → is_some (seat_in r) ≡ false → r ≡ None
+not_taken None is = refl
+not_taken (Some r) is = absurd (cc)
+
 -- a section is open
 pub is_opened : (o : Option OpenSection) → (is_some (place_in o) ≡ true) ↔ ((x : OpenSection) × (o ≡ Some x))
 is_opened None = ((λ is. absurd (cc)), (λ has. absurd (cc)))

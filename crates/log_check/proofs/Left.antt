@@ -20,11 +20,11 @@ is_later place None = true
 is_later place (Some opened) = nat_lt place opened
 
 -- by what a test answers
-by_test : {A : Type 0} (b : Bool) → (b ≡ true → A) → (b ≡ false → A) → A
+pub by_test : {A : Type 0} (b : Bool) → (b ≡ true → A) → (b ≡ false → A) → A
 by_test true passes fails = passes refl
 by_test false passes fails = fails refl
 
-both_true : (b c : Bool) → (b && c) ≡ true → (b ≡ true) × (c ≡ true)
+pub both_true : (b c : Bool) → (b && c) ≡ true → (b ≡ true) × (c ≡ true)
 both_true true c is = (refl, is)
 both_true false c is = absurd (cc)
 
@@ -32,7 +32,7 @@ other_seat : (test : ℕ → Bool) (k seat : ℕ) → test seat ≡ true → tes
 other_seat test k seat is not_k = by_test (nat_eq k seat) (λ same. let one : test k ≡ test seat = ap test ((Decides-eqb k seat).0 same) in absurd (cc)) (λ other. other)
 
 -- the section of a seat that no event is of stays as it is
-section_stays : (test : ℕ → Bool) (k : ℕ) (now : Now) (log : List Event) → list_all (λ (e : Event). test e.seat) log ≡ true → test k ≡ false →
+pub section_stays : (test : ℕ → Bool) (k : ℕ) (now : Now) (log : List Event) → list_all (λ (e : Event). test e.seat) log ≡ true → test k ≡ false →
     opened_in (now_after now log) k ≡ opened_in now k
 section_stays test k now [] all not_k = refl
 section_stays test k now (e ∷ log) all not_k =
@@ -51,7 +51,7 @@ later_where : (place : ℕ) (section : Option OpenSection) → ((o : OpenSection
 later_where place None after = refl
 later_where place (Some o) after = (Decides-ltb place o.place).1 (after o refl)
 
-all_true : (test : Event → Bool) → ((e : Event) → test e ≡ true) → (log : List Event) → list_all test log ≡ true
+pub all_true : (test : Event → Bool) → ((e : Event) → test e ≡ true) → (log : List Event) → list_all test log ≡ true
 all_true test each [] = refl
 all_true test each (e ∷ log) = ap (λ b. b && list_all test log) (each e) ∙ all_true test each log
 

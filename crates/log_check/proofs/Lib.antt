@@ -1,4 +1,5 @@
 pub mod PartLaws
 pub mod Left
+pub mod Quiet
 pub mod Answered
 pub mod Longer

@@ -7,9 +7,10 @@ use Rattle.std.specs.Option.{option_map}
 use Rattle.std.proofs.lemmas.List.Sums.{sum_by-cons}
 use Rattle.intern_log.specs.declared.event.Event.{Event}
 use Rattle.intern_log.specs.declared.event.What.{What}
-use Rattle.intern_log.specs.declared.event.What.TheVariants.{Create, Claim, Free, Open, Close, Grace, Lock, Unlink}
+use Rattle.intern_log.specs.declared.event.What.TheVariants.{Create, Claim, Free, Open, Close, Grace, Lock, Unlink, Rehash}
 use Rattle.intern_log.specs.Now.{OpenSection, Resizing, Now, resizing_after_lock, changed_by, now_after_event, now_after}
 use Rattle.intern_log.specs.Orderly.{is_grace, level_after_event}
+use Rattle.intern_log.specs.Seeded.{seed_after_event}
 use Rattle.log_check.specs.Parts.{phase_seen, phase_by, section_by, lock_by, owner_by}
 
 -- where the section of a seat was opened, and who has the resize lock
@@ -33,6 +34,7 @@ pub record FollowsByPart (now : Now) (seat : ℕ) (what : What) : Type 0 where
   pub owner : owner_in (changed_by now seat what) ≡ owner_by (owner_in now) seat what
   pub level : (changed_by now seat what).level ≡ level_after_event now.level what
   pub graces : (changed_by now seat what).graces ≡ now.graces + cond (is_grace what) 1 0
+  pub seed : (changed_by now seat what).seed ≡ seed_after_event now.seed what
 
 -- a choice of two, seen through a function
 through : {A B : Type 0} (f : A → B) (b : Bool) (x y : A) → f (cond b x y) ≡ cond b (f x) (f y)
@@ -50,15 +52,16 @@ same_resizer seat row None = refl
 same_resizer seat row (Some r) = refl
 
 pub follows_by_part : (now : Now) (seat : ℕ) (what : What) → FollowsByPart now seat what
-follows_by_part now seat (Create t h) = record { phase = λ s. through phase_seen (nat_eq s h.slot) _ _; section = λ k. sym (same_both (nat_eq k seat) _); lock = λ r b. refl; owner = refl; level = refl; graces = omega arith }
-follows_by_part now seat (Claim x) = record { phase = λ s. through phase_seen (nat_eq s x) _ _; section = λ k. sym (same_both (nat_eq k seat) _); lock = λ r b. refl; owner = refl; level = refl; graces = omega arith }
-follows_by_part now seat (Free x) = record { phase = λ s. through phase_seen (nat_eq s x) _ _; section = λ k. sym (same_both (nat_eq k seat) _); lock = λ r b. refl; owner = refl; level = refl; graces = omega arith }
-follows_by_part now seat (Unlink x) = record { phase = λ s. through phase_seen (nat_eq s x) _ _; section = λ k. sym (same_both (nat_eq k seat) _); lock = λ r b. refl; owner = refl; level = refl; graces = omega arith }
-follows_by_part now seat (Open c) = record { phase = λ s. refl; section = λ k. through place_in (nat_eq k seat) _ _; lock = λ r b. refl; owner = refl; level = refl; graces = omega arith }
-follows_by_part now seat Close = record { phase = λ s. refl; section = λ k. through place_in (nat_eq k seat) _ _; lock = λ r b. refl; owner = refl; level = refl; graces = omega arith }
-follows_by_part now seat Grace = record { phase = λ s. refl; section = λ k. sym (same_both (nat_eq k seat) _); lock = λ r b. refl; owner = refl; level = refl; graces = refl }
-follows_by_part now seat (Lock x y) = record { phase = λ s. refl; section = λ k. sym (same_both (nat_eq k seat) _); lock = λ r b. refl; owner = same_resizer seat x now.resizing; level = refl; graces = omega arith }
-follows_by_part now seat _ = record { phase = λ s. refl; section = λ k. sym (same_both (nat_eq k seat) _); lock = λ r b. refl; owner = refl; level = refl; graces = omega arith }
+follows_by_part now seat (Create t h) = record { phase = λ s. through phase_seen (nat_eq s h.slot) _ _; section = λ k. sym (same_both (nat_eq k seat) _); lock = λ r b. refl; owner = refl; level = refl; graces = omega arith; seed = refl }
+follows_by_part now seat (Claim x) = record { phase = λ s. through phase_seen (nat_eq s x) _ _; section = λ k. sym (same_both (nat_eq k seat) _); lock = λ r b. refl; owner = refl; level = refl; graces = omega arith; seed = refl }
+follows_by_part now seat (Free x) = record { phase = λ s. through phase_seen (nat_eq s x) _ _; section = λ k. sym (same_both (nat_eq k seat) _); lock = λ r b. refl; owner = refl; level = refl; graces = omega arith; seed = refl }
+follows_by_part now seat (Unlink x) = record { phase = λ s. through phase_seen (nat_eq s x) _ _; section = λ k. sym (same_both (nat_eq k seat) _); lock = λ r b. refl; owner = refl; level = refl; graces = omega arith; seed = refl }
+follows_by_part now seat (Open c) = record { phase = λ s. refl; section = λ k. through place_in (nat_eq k seat) _ _; lock = λ r b. refl; owner = refl; level = refl; graces = omega arith; seed = refl }
+follows_by_part now seat Close = record { phase = λ s. refl; section = λ k. through place_in (nat_eq k seat) _ _; lock = λ r b. refl; owner = refl; level = refl; graces = omega arith; seed = refl }
+follows_by_part now seat Grace = record { phase = λ s. refl; section = λ k. sym (same_both (nat_eq k seat) _); lock = λ r b. refl; owner = refl; level = refl; graces = refl; seed = refl }
+follows_by_part now seat (Lock x y) = record { phase = λ s. refl; section = λ k. sym (same_both (nat_eq k seat) _); lock = λ r b. refl; owner = same_resizer seat x now.resizing; level = refl; graces = omega arith; seed = refl }
+follows_by_part now seat (Rehash n) = record { phase = λ s. refl; section = λ k. sym (same_both (nat_eq k seat) _); lock = λ r b. refl; owner = refl; level = refl; graces = omega arith; seed = refl }
+follows_by_part now seat _ = record { phase = λ s. refl; section = λ k. sym (same_both (nat_eq k seat) _); lock = λ r b. refl; owner = refl; level = refl; graces = omega arith; seed = refl }
 
 -- a part that each event changes by a step is the fold of that step, with the places or without them
 pub part_by_place : {A : Type 0} (part : Now → A) (step : A → ℕ × Event → A) → ((now : Now) (e : Event) → part (now_after_event now e) ≡ step (part now) (now.place, e)) →

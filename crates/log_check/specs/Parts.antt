@@ -1,5 +1,5 @@
 -- What the code reads from the events of a log: one part of what the log says at its end, event by event.
-use Rattle.std.specs.Prelude.{List, ◌+◌, ◌≤◌, ◌⊎◌, ℕ, ◌≡◌, true, ◌&&◌, Bool, false, if◌then◌else◌, nat_eq, Option, Some, None}
+use Rattle.std.specs.Prelude.{List, ◌+◌, ◌≤◌, ◌⊎◌, ℕ, ◌≡◌, true, ◌&&◌, Bool, false, if◌then◌else◌, nat_eq, Option, Some, None, is_none}
 use Rattle.intern_log.specs.declared.event.Event.{Event}
 use Rattle.intern_log.specs.declared.event.What.{What}
 use Rattle.intern_log.specs.declared.event.What.TheVariants.{Create, Take, Found, Drop, Perm, Kill, Claim, Free, Open, Close, Grace, Lock, Unlock, Unlink, ResizeTaken, ResizeGiven, Level, Rehash}
@@ -7,7 +7,7 @@ use Rattle.std.specs.List.{list_any}
 use Rattle.intern_log.specs.Log.{creates}
 use Rattle.intern_log.specs.declared.event.Handle.{Handle}
 use Rattle.intern_log.specs.declared.event.TableKind.{TableKind}
-use Rattle.intern_log.specs.Lawful.{MayFollow}
+use Rattle.intern_log.specs.Lawful.{IsLinkedDead, MayFollow}
 use Rattle.intern_log.specs.Now.{Phase, Now, now_of}
 use Rattle.intern_log.specs.Now as model
 use Rattle.log_check.specs.declared.past.SlotPhase.{SlotPhase}
@@ -137,7 +137,27 @@ is_left_by seat slot (Some s) = is_unlinked_by seat (slot s)
 abbrev pub HasUnlinked : Now → ℕ → Type 0
 HasUnlinked now seat = (s : ℕ) × (place : ℕ) × (now.slot s ≡ model.Unlinked seat place)
 
--- the event may stand behind these events
+-- whether the event is no Lock of a bucket that is locked
+abbrev pub leaves_unlocked : (ℕ → ℕ → Option ℕ) → What → Bool
+leaves_unlocked lock (Lock row bucket) = is_none (lock row bucket)
+leaves_unlocked lock _ = true
+
+-- the event is a Create in a slot that is in a chain with its entry gone
+abbrev pub NamesDead : Now → What → Type 0
+NamesDead now (Create text h) = IsLinkedDead now (now.slot h.slot)
+NamesDead now _ = ⊥
+
+-- no section is open, no bucket is locked, and no slot is in a chain with its entry gone
+abbrev pub AreClosed : Now → Type 0
+AreClosed now = (seat : ℕ) → now.section seat ≡ None
+
+abbrev pub AreUnlocked : Now → Type 0
+AreUnlocked now = (row bucket : ℕ) → now.lock row bucket ≡ None
+
+abbrev pub AreLive : Now → Type 0
+AreLive now = (s : ℕ) → ¬ (IsLinkedDead now (now.slot s))
+
+-- the event may come after these events
 abbrev pub MayStand : TableKind → List Event → ℕ → What → Type 0
 MayStand table before seat what = MayFollow table (now_of table.min_level before) seat what
 

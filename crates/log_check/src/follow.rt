@@ -1,14 +1,14 @@
 //! Whether an event may follow the events before it, for each kind of event.
 ghost use Rattle.std.specs.Prelude.{◌≡◌, ℕ, ◌↔◌, IsTrue, Some};
-ghost use Rattle.intern_log.specs.Lawful.{IsResizing};
+ghost use Rattle.intern_log.specs.Lawful.{IsResizing, IsQuiet};
 ghost use Rattle.intern_log.specs.Log.{Allows};
 ghost use Rattle.intern_log.specs.Now.{Claimed, now_of};
 ghost use Rattle.intern_log.specs.declared.event.TableKind.{TableKind};
-ghost use Rattle.log_check.specs.Parts.{IsNextLevel, MayStand, IsRepeated};
+ghost use Rattle.log_check.specs.Parts.{IsNextLevel, MayStand, IsRepeated, NamesDead, AreLive};
 
 use crate::past::{
-    SlotPhase, graces_of, has_unlinked, is_created, is_graced_since, level_of, lock_of, phase_of,
-    resizer, section_of,
+    SlotPhase, are_closed, are_unlocked, graces_of, has_unlinked, is_created, is_graced_since,
+    level_of, lock_of, phase_of, resizer, section_of, seed_of,
 };
 use intern_log::{Event, Kind, Replay, TableKind, What};
 
@@ -125,6 +125,60 @@ fn may_unlink(before: &[Event], texts: &Replay, slot: u32) -> bool
     }
 }
 
+/// Whether an event is a Create in a slot that is in a chain with its entry gone.
+fn names_dead(before: &[Event], texts: &Replay, event: &Event) -> bool
+    ensures { (table : TableKind) → texts.now ≡ (now_of table.min_level before.now).texts
+        → IsTrue result ↔ NamesDead (now_of table.min_level before.now) event.now.what }
+{
+    match &event.what {
+        What::Create(_, handle) => may_unlink(before, texts, handle.slot),
+        _ => false,
+    }
+}
+
+/// Whether no slot is in a chain with its entry gone.
+fn are_live(table: &TableKind, before: &[Event], texts: &Replay) -> bool
+    requires { texts.now ≡ (now_of table.now.min_level before.now).texts }
+    ensures { IsTrue result ↔ AreLive (now_of table.now.min_level before.now) }
+{
+    for event in before {
+        if names_dead(before, texts, event) {
+            return false;
+        }
+    }
+    true
+}
+
+/// Whether nothing is going on: no section is open, no bucket is locked, nobody has the resize lock, and
+/// no slot is in a chain with its entry gone.
+fn is_quiet(table: &TableKind, before: &[Event], texts: &Replay) -> bool
+    requires { texts.now ≡ (now_of table.now.min_level before.now).texts }
+    ensures { IsTrue result ↔ IsQuiet (now_of table.now.min_level before.now) }
+{
+    if !are_closed(before) {
+        return false;
+    }
+    if !are_unlocked(before) {
+        return false;
+    }
+    if resizer(before).is_some() {
+        return false;
+    }
+    are_live(table, before, texts)
+}
+
+/// Whether a seat may make the hashes and the chains anew with this seed: it is seat 0, the seed is the
+/// next one and at most 2, and nothing is going on.
+fn may_rehash(table: &TableKind, before: &[Event], texts: &Replay, seat: u32, seed: u32) -> bool
+    requires { texts.now ≡ (now_of table.now.min_level before.now).texts }
+    ensures { IsTrue result ↔ MayStand table.now before.now seat (What.Rehash seed) }
+{
+    seat == 0
+        && seed <= 2
+        && u64::from(seed) == u64::from(seed_of(before)) + 1
+        && is_quiet(table, before, texts)
+}
+
 /// Whether an event may follow the events before it. It asks for the map that those events leave.
 pub(crate) fn may_follow(table: &TableKind, before: &[Event], texts: &Replay, event: &Event) -> bool
     requires { texts.now ≡ (now_of table.now.min_level before.now).texts }
@@ -150,6 +204,7 @@ pub(crate) fn may_follow(table: &TableKind, before: &[Event], texts: &Replay, ev
         What::ResizeTaken => may_take_resize(before),
         What::ResizeGiven => may_give_resize(before, seat),
         What::Level(level) => may_set_level(table, before, seat, *level),
+        What::Rehash { seed } => may_rehash(table, before, texts, seat, *seed),
     }
 }
 

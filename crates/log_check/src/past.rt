@@ -5,8 +5,9 @@ ghost use Rattle.std.specs.Option.{option_map};
 ghost use Rattle.intern_log.specs.Log.{creates};
 ghost use Rattle.intern_log.specs.Lawful.{IsGracedSince};
 ghost use Rattle.intern_log.specs.Now.{now_of};
-ghost use Rattle.log_check.specs.Parts.{phase_seen, phase_step, section_step, lock_step, owner_step, slot_unlinked, is_left_by, HasUnlinked};
+ghost use Rattle.log_check.specs.Parts.{phase_seen, phase_step, section_step, lock_step, owner_step, slot_unlinked, is_left_by, HasUnlinked, leaves_unlocked, AreClosed, AreUnlocked};
 ghost use Rattle.intern_log.specs.Orderly.{level_after_event};
+ghost use Rattle.intern_log.specs.Seeded.{seed_after_event};
 
 use intern_log::{Event, Handle, What};
 
@@ -137,6 +138,23 @@ pub(crate) fn level_of(events: &[Event], min_level: u8) -> u8
         .fold(min_level, |level, event| level_after(level, event))
 }
 
+/// The seed after one more event.
+fn seed_after(seed: u32, event: &Event) -> u32
+    ensures { result ≡ seed_after_event seed event.now.what }
+{
+    match &event.what {
+        What::Rehash { seed: next } => *next,
+        _ => seed,
+    }
+}
+
+/// The seed of the table.
+pub(crate) fn seed_of(events: &[Event]) -> u32
+    ensures { (min_level : ℕ) → result ≡ (now_of min_level events.now).seed }
+{
+    events.iter().fold(0, |seed, event| seed_after(seed, event))
+}
+
 /// How often the grace counter was raised.
 pub(crate) fn graces_of(events: &[Event]) -> usize
     ensures { (min_level : ℕ) → result ≡ (now_of min_level events.now).graces }
@@ -193,4 +211,30 @@ pub(crate) fn has_unlinked(events: &[Event], seat: u32) -> bool
     events
         .iter()
         .any(|event| leaves_unlinked(events, seat, event))
+}
+
+/// Whether no seat has a section open.
+pub(crate) fn are_closed(events: &[Event]) -> bool
+    ensures { (min_level : ℕ) → IsTrue result ↔ AreClosed (now_of min_level events.now) }
+{
+    events
+        .iter()
+        .all(|event| section_of(events, event.seat).is_none())
+}
+
+/// Whether an event is no Lock of a bucket that is locked.
+fn leaves_unlocked(events: &[Event], event: &Event) -> bool
+    ensures { (min_level : ℕ) → result ≡ leaves_unlocked (now_of min_level events.now).lock event.now.what }
+{
+    match &event.what {
+        What::Lock(row, bucket) => lock_of(events, *row, *bucket).is_none(),
+        _ => true,
+    }
+}
+
+/// Whether no bucket is locked.
+pub(crate) fn are_unlocked(events: &[Event]) -> bool
+    ensures { (min_level : ℕ) → IsTrue result ↔ AreUnlocked (now_of min_level events.now) }
+{
+    events.iter().all(|event| leaves_unlocked(events, event))
 }
