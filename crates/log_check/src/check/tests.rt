@@ -22,6 +22,7 @@ enum Step {
     ResizeTaken,
     ResizeGiven,
     Level(u8),
+    Rehash(u32),
 }
 
 /// An event: its seat, and what happened.
@@ -127,12 +128,36 @@ const WEAK: &[Row] = &[
     (3, Step::Create(b"a", A_AGAIN)),
 ];
 
+/// The table is made anew with seed 1, and with seed 2 once the entry of before is cleaned.
+const SEEDED: &[Row] = &[
+    (1, Step::Open(7)),
+    (1, Step::Claim(0)),
+    (1, Step::Create(b"a", A)),
+    (1, Step::Close),
+    (3, Step::Lock(3, 1)),
+    (3, Step::Unlock(3, 1)), // 5
+    (0, Step::Rehash(1)),
+    (2, Step::Take(b"a", A)),
+    (2, Step::Drop(A)),
+    (1, Step::Drop(A)),
+    (2, Step::ResizeTaken), // 10
+    (2, Step::Lock(3, 0)),
+    (2, Step::Unlink(0)),
+    (2, Step::Unlock(3, 0)),
+    (2, Step::Grace),
+    (2, Step::Free(0)), // 15
+    (2, Step::ResizeGiven),
+    (0, Step::Rehash(2)),
+    (1, Step::Grace),
+];
+
 /// The lawful logs.
 #[derive(Clone, Copy)]
 enum Lawful {
     Counted,
     Grown,
     Weak,
+    Seeded,
 }
 
 impl Lawful {
@@ -141,13 +166,14 @@ impl Lawful {
             Lawful::Counted => COUNTED,
             Lawful::Grown => GROWN,
             Lawful::Weak => WEAK,
+            Lawful::Seeded => SEEDED,
         }
     }
 
     fn table(self) -> TableKind {
         TableKind {
             kind: match self {
-                Lawful::Counted | Lawful::Grown => Kind::Counted,
+                Lawful::Counted | Lawful::Grown | Lawful::Seeded => Kind::Counted,
                 Lawful::Weak => Kind::Weak,
             },
             min_level: 3,
@@ -161,7 +187,7 @@ impl Lawful {
 /// the log is then unlawful.
 type Change = (Lawful, usize, Row, usize);
 
-static CHANGES: [Change; 46] = [
+static CHANGES: [Change; 54] = [
     // The map: a text that is live, a handle that is live, and what is not live.
     (Lawful::Counted, 25, (1, Step::Create(b"b", A_AGAIN)), 25),
     (Lawful::Counted, 25, (1, Step::Create(b"c", B)), 25),
@@ -220,6 +246,16 @@ static CHANGES: [Change; 46] = [
     (Lawful::Weak, 5, (2, Step::Perm(A)), 5),
     (Lawful::Counted, 5, (2, Step::Found(b"a", A)), 5),
     (Lawful::Counted, 8, (1, Step::Kill(A)), 8),
+    // Seeds: by another number; the same, by two, and the third.
+    (Lawful::Seeded, 6, (1, Step::Rehash(1)), 6),
+    (Lawful::Seeded, 6, (0, Step::Rehash(0)), 6),
+    (Lawful::Seeded, 6, (0, Step::Rehash(2)), 6),
+    (Lawful::Seeded, 18, (0, Step::Rehash(3)), 18),
+    // Beside an open section, a locked bucket, the resize lock, and an entry that is gone.
+    (Lawful::Seeded, 3, (0, Step::Rehash(1)), 3),
+    (Lawful::Seeded, 5, (0, Step::Rehash(1)), 5),
+    (Lawful::Seeded, 16, (0, Step::Rehash(2)), 16),
+    (Lawful::Seeded, 10, (0, Step::Rehash(2)), 10),
 ];
 
 fn what_of(alloc: Global, step: Step) -> Result<What, TextFault> {
@@ -241,6 +277,7 @@ fn what_of(alloc: Global, step: Step) -> Result<What, TextFault> {
         Step::ResizeTaken => What::ResizeTaken,
         Step::ResizeGiven => What::ResizeGiven,
         Step::Level(level) => What::Level(level),
+        Step::Rehash(seed) => What::Rehash { seed },
     })
 }
 
@@ -258,7 +295,7 @@ fn events_of(alloc: Global, rows: &[Row]) -> Result<Vec<Event>, TextFault> {
 
 #[test]
 fn lawful_logs_have_no_fault(rt: HostRuntime) -> Result<(), Fail> {
-    for log in [Lawful::Counted, Lawful::Grown, Lawful::Weak] {
+    for log in [Lawful::Counted, Lawful::Grown, Lawful::Weak, Lawful::Seeded] {
         let events = events_of(rt.alloc(), log.rows())?;
         assert_eq!(rt;
             first_unlawful(rt.alloc(), &log.table(), events.as_slice())?,
