@@ -23,3 +23,4 @@ pub mod CallerHolds
 pub mod SlotBucketLaws
 pub mod WorkedLogLaws
 pub mod SeededLaws
+pub mod RehashedLogLaws

@@ -19,4 +19,5 @@ pub mod Callers
 pub mod SlotBuckets
 pub mod Short
 pub mod WorkedLog
+pub mod RehashedLog
 pub mod Touches
