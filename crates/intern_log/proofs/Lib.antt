@@ -22,3 +22,5 @@ pub mod CallerSums
 pub mod CallerHolds
 pub mod SlotBucketLaws
 pub mod WorkedLogLaws
+pub mod SlotPhases
+pub mod RefilledLogLaws

@@ -19,3 +19,4 @@ pub mod SlotBuckets
 pub mod Short
 pub mod WorkedLog
 pub mod Touches
+pub mod RefilledLog
