@@ -24,3 +24,4 @@ pub mod SlotBucketLaws
 pub mod WorkedLogLaws
 pub mod SlotPhases
 pub mod RefilledLogLaws
+pub mod NowLaws

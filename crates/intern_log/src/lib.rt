@@ -18,6 +18,7 @@ pub mod fault;
 mod fields;
 pub mod lawful_logs;
 pub mod laws;
+pub mod now_laws;
 pub mod refilled_log;
 pub mod replay;
 pub mod resize_laws;
