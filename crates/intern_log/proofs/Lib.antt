@@ -25,3 +25,4 @@ pub mod WorkedLogLaws
 pub mod SlotPhases
 pub mod RefilledLogLaws
 pub mod NowLaws
+pub mod GrownLogLaws

@@ -179,7 +179,7 @@ no_create e log other fresh = ((λ h here. absurd (not_created e.what h other he
     not_created (Create t k) h other here = cc
     not_created _ h other here = cc
 
-all_fresh : (log rest : List Event) → list_any (λ (e : Event). is_create e.what) log ≡ false → IsFresh rest → IsFresh (log ++ rest)
+pub all_fresh : (log rest : List Event) → list_any (λ (e : Event). is_create e.what) log ≡ false → IsFresh rest → IsFresh (log ++ rest)
 all_fresh [] rest none fresh = fresh
 all_fresh (e ∷ log) rest none fresh = let parts = neither (is_create e.what) _ none in no_create e (log ++ rest) parts.0 (all_fresh log rest parts.1 fresh)
 

@@ -20,3 +20,4 @@ pub mod Short
 pub mod WorkedLog
 pub mod Touches
 pub mod RefilledLog
+pub mod GrownLog

@@ -16,6 +16,7 @@ pub mod event;
 pub mod event_laws;
 pub mod fault;
 mod fields;
+pub mod grown_log;
 pub mod lawful_logs;
 pub mod laws;
 pub mod now_laws;
