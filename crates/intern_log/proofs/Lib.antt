@@ -26,3 +26,4 @@ pub mod SlotPhases
 pub mod RefilledLogLaws
 pub mod NowLaws
 pub mod GrownLogLaws
+pub mod RuleLaws

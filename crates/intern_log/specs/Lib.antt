@@ -21,3 +21,4 @@ pub mod WorkedLog
 pub mod Touches
 pub mod RefilledLog
 pub mod GrownLog
+pub mod Rules

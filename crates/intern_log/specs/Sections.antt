@@ -89,3 +89,12 @@ pub record IsGraced (log : List Event) : Type 0 where
 abbrev pub IsCareful : List Event → Type 0
 IsCareful log = (front back : List Event) (seat s : ℕ) → log ≡ with_event front seat (Unlink s) back →
     (text : List ℕ) × (h : Handle) × IsLinkedAs front s text h × ¬ (IsLive (map_of front) h)
+
+-- an entry is created only in a slot that its own seat claimed, where none was created in it and it was not freed since
+abbrev pub IsCreatedByItsClaimer : List Event → Type 0
+IsCreatedByItsClaimer log = (front back : List Event) (seat : ℕ) (text : List ℕ) (h : Handle) → log ≡ with_event front seat (Create text h) back → IsClaimedBy front h.slot seat
+
+-- a slot in which no entry was created since its Claim is freed by the seat that claimed it, and one that was unlinked by the seat that unlinked it
+pub record IsFreedByItsOwner (log : List Event) : Type 0 where
+  pub claimer : (front back : List Event) (seat s owner : ℕ) → log ≡ with_event front seat (Free s) back → IsClaimedBy front s owner → owner ≡ seat
+  pub unlinker : (front back : List Event) (seat s owner place : ℕ) → log ≡ with_event front seat (Free s) back → IsUnlinkedAt front s owner place → owner ≡ seat

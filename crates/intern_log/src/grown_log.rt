@@ -41,6 +41,12 @@ pub fn lock_of_the_new_row_is_left()
     ensures law { (now_of 3 (take 6 grown_log)).lock 4 0 ≡ Some 2 }
 {}
 
+/// The level has changed at place 5.
+pub fn level_of_the_grown_log()
+    ensures law { (now_of 3 (take 6 grown_log)).level ≡ 4 }
+    ensures since { (now_of 3 (take 6 grown_log)).since ≡ 6 }
+{}
+
 /// At its end nobody has the resize lock.
 pub fn no_resizing_at_the_end()
     ensures law { (now_of 3 grown_log).resizing ≡ None }
@@ -70,6 +76,7 @@ mod tests {
         row_is_replaced_at_place_6();
         lock_of_the_old_row_is_ended();
         lock_of_the_new_row_is_left();
+        level_of_the_grown_log();
         no_resizing_at_the_end();
         no_row_is_being_replaced();
         row_3_is_being_replaced();

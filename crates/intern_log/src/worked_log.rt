@@ -33,6 +33,11 @@ pub fn section_is_open_in_the_worked_log()
     ensures law { (now_of worked_table.min_level (take 18 worked_log)).section 2 ≡ Some (record { place = 17; counter = 2 }) }
 {}
 
+/// There has been one Grace.
+pub fn graces_of_the_worked_log()
+    ensures law { (now_of worked_table.min_level (take 18 worked_log)).graces ≡ 1 }
+{}
+
 /// The text is missing in the window of the reader.
 pub fn text_is_missing_in_the_worked_log()
     ensures law { IsMissing before_the_reader (before_the_reader ++ while_it_reads) cat }
@@ -54,6 +59,7 @@ mod tests {
         slot_is_linked_in_the_worked_log();
         slot_is_unlinked_in_the_worked_log();
         section_is_open_in_the_worked_log();
+        graces_of_the_worked_log();
         text_is_missing_in_the_worked_log();
         text_is_live_at_the_end_of_the_worked_log();
     }
