@@ -37,7 +37,7 @@ taken_is table now log s allowed (front, back, seat, is, kept) =
 
 -- a slot that a log links, and does not unlink since, is in a chain
 linked_is : (table : TableKind) (now : Now) (log : List Event) (s : ℕ) → IsAllowedFrom table now log → IsLinkedIn log s → (seat : ℕ) → ¬ (MayFree (now_after now log) seat ((now_after now log).slot s))
-linked_is table now log s allowed (text, h, (front, back, seat, is, at, kept)) freer may =
+linked_is table now log s allowed (text, h, (place, (front, back, seat, is, placed, at, unfilled, kept))) freer may =
     let whole = subst (IsAllowedFrom table now) is allowed in
     let created = now_after_event (now_after now front) (record { seat = seat; what = Create text h }) in
     let there : created.slot s ≡ Linked text h (now_after now front).place = subst (λ x. created.slot x ≡ Linked text h (now_after now front).place) at (put_there ((now_after now front).slot) h.slot (Linked text h (now_after now front).place)) in
@@ -47,7 +47,7 @@ linked_is table now log s allowed (text, h, (front, back, seat, is, at, kept)) f
 
 -- a section that a log opens, and does not close since, is open
 pub open_is : (table : TableKind) (now : Now) (log : List Event) (k : ℕ) → IsAllowedFrom table now log → IsOpenIn log k → (o : OpenSection) × ((now_after now log).section k ≡ Some o)
-open_is table now log k allowed (front, back, counter, is, kept) =
+open_is table now log k allowed (place, counter, (front, back, is, placed, kept)) =
     let whole = subst (IsAllowedFrom table now) is allowed in
     let opened = now_after_event (now_after now front) (record { seat = k; what = Open counter }) in
     let o : OpenSection = record { place = (now_after now front).place; counter = counter } in
@@ -64,7 +64,7 @@ taken-push log e s (front, back, seat, is, kept) unfreed =
     (front, back ++ e ∷ [], seat, ap (λ l. l ++ e ∷ []) is ∙ append_assoc front _ (e ∷ []), list_any-append _ back (e ∷ []) ∙ or_false _ _ kept (or_false _ false unfreed refl))
 
 -- a slot that is not vacant was claimed, and not freed since
-not_vacant_is_taken : (table : TableKind) (done rest : List Event) (now : Now) (s : ℕ) → IsAllowedFrom table now rest →
+pub not_vacant_is_taken : (table : TableKind) (done rest : List Event) (now : Now) (s : ℕ) → IsAllowedFrom table now rest →
     (¬ (now.slot s ≡ Vacant) → IsTakenIn done s) → ¬ ((now_after now rest).slot s ≡ Vacant) → IsTakenIn (done ++ rest) s
 not_vacant_is_taken table done [] now s allowed tie filled = subst (λ l. IsTakenIn l s) (sym (append-nil done)) (tie filled)
 not_vacant_is_taken table done (e ∷ rest) now s allowed tie filled =

@@ -24,3 +24,8 @@ pub mod SlotBucketLaws
 pub mod WorkedLogLaws
 pub mod SeededLaws
 pub mod RehashedLogLaws
+pub mod SlotPhases
+pub mod RefilledLogLaws
+pub mod NowLaws
+pub mod GrownLogLaws
+pub mod RuleLaws

@@ -1,20 +1,20 @@
 -- A lawful log is orderly.
-use Rattle.std.proofs.Common.{◌≡◌, ℕ, Bool, false, List, [], ◌∷◌, ◌++◌, ◌&&◌, cond, ◌+◌, ◌*◌, ◌≤◌, ◌⊎◌, Option, Some, None, refl, sym, ap, subst, ◌∙◌}
+use Rattle.std.proofs.Common.{◌≡◌, ℕ, Bool, false, List, [], ◌∷◌, ◌++◌, length, ◌&&◌, cond, ◌+◌, ◌*◌, ◌≤◌, ◌⊎◌, Option, Some, None, refl, sym, ap, subst, ◌∙◌}
 use native.Mathlib.Omega.{arith}
 use Rattle.std.specs.Prelude.{nat_eq}
 use Rattle.std.specs.List.{list_any}
 use Rattle.std.proofs.lemmas.Bool.Decides.{Decides-eqb}
-use Rattle.std.proofs.lemmas.List.{append_assoc, append-nil}
+use Rattle.std.proofs.lemmas.List.{append_assoc, append-nil, length-append}
 use Rattle.std.proofs.lemmas.List.Folds.{list_any-append}
 use Rattle.std.proofs.lemmas.List.Sums.{sum_by-cons}
 use Rattle.intern_log.specs.declared.event.Event.{Event}
 use Rattle.intern_log.specs.declared.event.What.{What}
 use Rattle.intern_log.specs.declared.event.What.TheVariants.{Create, Take, Found, Drop, Perm, Kill, Claim, Free, Open, Close, Grace, Lock, Unlock, Unlink, ResizeTaken, ResizeGiven, Level, Rehash}
 use Rattle.intern_log.specs.Counts.{events_in}
-use Rattle.intern_log.specs.Now.{Unlinked, OpenSection, Resizing, Now, owner_of, opening, changed_by, now_after_event, now_after, with_lock}
+use Rattle.intern_log.specs.Now.{Unlinked, OpenSection, Resizing, Now, owner_of, opening, changed_by, now_after_event, now_after, now_of, with_lock}
 use Rattle.intern_log.specs.declared.event.TableKind.{TableKind}
 use Rattle.intern_log.specs.Lawful.{MayFollow, IsResizing, IsAllowedFrom, IsLawful}
-use Rattle.intern_log.specs.Sections.{closes, some_frees, with_event, IsOpenIn}
+use Rattle.intern_log.specs.Sections.{closes, some_frees, with_event, IsOpenAs}
 use Rattle.intern_log.specs.Orderly.{is_grace, is_resize_given, ends_lock, some_ends_lock, HasResizeLock, IsLockedBy, level_after_event, level_after, IsOrderly}
 use Rattle.intern_log.proofs.LawfulLaws.{IsAllowedFrom-prefix, IsAllowedFrom-rest}
 use Rattle.intern_log.proofs.Slots.{section_after, lock_after, owner_after, unlinked_until_free, neither}
@@ -42,18 +42,33 @@ event_is e k what made at done = ap (λ w. done ++ record { seat = e.seat; what 
 one_seat : (a b : ℕ) → Some a ≡ Some b → a ≡ b
 one_seat a b is = cc
 
--- an open section was opened, and not closed since
-open_was_opened : (table : TableKind) (k : ℕ) (done rest : List Event) (now : Now) → IsAllowedFrom table now rest →
-    ((o : OpenSection) → now.section k ≡ Some o → IsOpenIn done k) → (o : OpenSection) → (now_after now rest).section k ≡ Some o → IsOpenIn (done ++ rest) k
-open_was_opened table k = carried table (λ done now. (o : OpenSection) → now.section k ≡ Some o → IsOpenIn done k) (λ done now e may tie o.
-    section_after (λ section. section ≡ Some o → IsOpenIn (done ++ e ∷ []) k) table now e.seat e.what k may
-    (λ unclosed is. let was = tie o is in
-    (was.0, was.1 ++ e ∷ [], was.2, pushed was.0 was.1 k (Open was.2) e done was.3, still_none (λ (x : Event). closes k x.seat x.what) was.1 e was.4 unclosed))
-    (λ counter made at none is. (done, [], counter, event_is e k (Open counter) made at done, refl))
-    (λ closed is. absurd (cc)))
+-- the place, and the open section of a number with the Open that it comes from
+record Opened (k : ℕ) (done : List Event) (now : Now) : Type 0 where
+  place : now.place ≡ length done
+  was : (o : OpenSection) → now.section k ≡ Some o → IsOpenAs done k o.place o.counter
+
+same_section : (a b : OpenSection) → Some a ≡ Some b → a ≡ b
+same_section a b is = cc
+
+opened_next : (table : TableKind) (k : ℕ) (done : List Event) (now : Now) (e : Event) → MayFollow table now e.seat e.what → Opened k done now → Opened k (done ++ e ∷ []) (now_after_event now e)
+opened_next table k done now e may tie = record {
+  place = let longer = length-append done (e ∷ []) in let was = tie.place in omega (arith, longer, was);
+  was = λ o. section_after (λ section. section ≡ Some o → IsOpenAs (done ++ e ∷ []) k o.place o.counter) table now e.seat e.what k may
+      (λ unclosed is. let was = tie.was o is in
+      (was.0, was.1 ++ e ∷ [], pushed was.0 was.1 k (Open o.counter) e done was.2, was.3, still_none (λ (x : Event). closes k x.seat x.what) was.1 e was.4 unclosed))
+      (λ counter made at none is. subst (λ (p : OpenSection). IsOpenAs (done ++ e ∷ []) k p.place p.counter) (same_section _ o is)
+      (done, [], event_is e k (Open counter) made at done, sym tie.place, refl))
+      (λ closed is. absurd (cc));
+}
+
+-- an open section was opened at its place with its counter, and not closed since
+pub open_was_opened : (table : TableKind) (log : List Event) (k : ℕ) (o : OpenSection) → IsAllowedFrom table (opening table.min_level) log →
+    (now_of table.min_level log).section k ≡ Some o → IsOpenAs log k o.place o.counter
+open_was_opened table log k o allowed =
+    (carried table (Opened k) (opened_next table k) [] log (opening table.min_level) allowed (record { place = refl; was = λ p none. absurd (cc) })).was o
 
 -- who has the resize lock took it, and it was not given back since
-owner_took : (table : TableKind) (k : ℕ) (done rest : List Event) (now : Now) → IsAllowedFrom table now rest →
+pub owner_took : (table : TableKind) (k : ℕ) (done rest : List Event) (now : Now) → IsAllowedFrom table now rest →
     (owner_of now.resizing ≡ Some k → HasResizeLock done k) → owner_of (now_after now rest).resizing ≡ Some k → HasResizeLock (done ++ rest) k
 owner_took table k = carried table (λ done now. owner_of now.resizing ≡ Some k → HasResizeLock done k) (λ done now e may tie.
     owner_after (λ owner. owner ≡ Some k → HasResizeLock (done ++ e ∷ []) k) table now e.seat e.what may
@@ -63,7 +78,7 @@ owner_took table k = carried table (λ done now. owner_of now.resizing ≡ Some 
     (λ given is. absurd (cc)))
 
 -- who has the lock of a bucket locked it, and nothing ended that since
-lock_was_taken : (table : TableKind) (row bucket k : ℕ) (done rest : List Event) (now : Now) → IsAllowedFrom table now rest →
+pub lock_was_taken : (table : TableKind) (row bucket k : ℕ) (done rest : List Event) (now : Now) → IsAllowedFrom table now rest →
     (now.lock row bucket ≡ Some k → IsLockedBy done row bucket k) → (now_after now rest).lock row bucket ≡ Some k → IsLockedBy (done ++ rest) row bucket k
 lock_was_taken table row bucket k = carried table (λ done now. now.lock row bucket ≡ Some k → IsLockedBy done row bucket k) (λ done now e may tie.
     lock_after (λ lock. lock ≡ Some k → IsLockedBy (done ++ e ∷ []) row bucket k) table now e.seat e.what row bucket may
@@ -134,7 +149,7 @@ level-event now seat (Level l) = refl
 level-event now seat (Rehash n) = refl
 
 -- the graces of a log are counted, and its level is that of its last Level
-graces_are : (now : Now) (log : List Event) → (now_after now log).graces ≡ now.graces + events_in is_grace log
+pub graces_are : (now : Now) (log : List Event) → (now_after now log).graces ≡ now.graces + events_in is_grace log
 graces_are now [] = omega arith
 graces_are now (e ∷ log) =
     let more = graces_are (now_after_event now e) log in
@@ -176,7 +191,7 @@ lock_is table now log row bucket k allowed (front, back, is, kept) =
     ap (λ (n : Now). n.lock row bucket) (ap (now_after now) is ∙ said now front k (Lock row bucket) back)
     ∙ locked_until_ended table locked back row bucket k there (IsAllowedFrom-rest table now front _ whole).1 kept
 
-unlinked_is : (table : TableKind) (now : Now) (log before since : List Event) (k s : ℕ) → IsAllowedFrom table now log → log ≡ with_event before k (Unlink s) since →
+pub unlinked_is : (table : TableKind) (now : Now) (log before since : List Event) (k s : ℕ) → IsAllowedFrom table now log → log ≡ with_event before k (Unlink s) since →
     some_frees s since ≡ false → (now_after now log).slot s ≡ Unlinked k (now_after now before).place
 unlinked_is table now log before since k s allowed is kept =
     let whole = subst (IsAllowedFrom table now) is allowed in
@@ -209,7 +224,7 @@ lawful_is_orderly table log lawful = record {
       );
   closings = λ front back k is.
       let at = at_event table log front back k Close lawful is in
-      open_was_opened table k [] front (opening table.min_level) at.0 (λ o was. absurd (cc)) at.1.0 at.1.1;
+      (at.1.0.place, at.1.0.counter, open_was_opened table front k at.1.0 at.0 at.1.1);
   taken = λ front back k j is has.
       let at = at_event table log front back k ResizeTaken lawful is in
       free_has_none (now_after (opening table.min_level) front).resizing j at.1 (owner_is table (opening table.min_level) front j at.0 has);

@@ -1,22 +1,25 @@
 -- The seed of a log, and that a lawful log is seeded.
-use Rattle.std.proofs.Common.{◌≡◌, ℕ, ◌+◌, ◌≤◌, false, List, [], ◌∷◌, ◌++◌, refl, sym, ap, subst, ◌∙◌}
+use Rattle.std.proofs.Common.{◌≡◌, ℕ, ◌+◌, ◌≤◌, false, List, [], ◌∷◌, ◌↔◌, refl, sym, ap, subst, ◌∙◌}
 use native.Mathlib.Omega.{arith}
 use Rattle.std.specs.List.{list_any}
-use Rattle.intern_log.specs.declared.event.Handle.{Handle}
 use Rattle.intern_log.specs.declared.event.Event.{Event}
 use Rattle.intern_log.specs.declared.event.What.{What}
-use Rattle.intern_log.specs.declared.event.What.TheVariants.{Create, Rehash}
+use Rattle.intern_log.specs.declared.event.What.TheVariants.{Rehash}
 use Rattle.intern_log.specs.declared.event.TableKind.{TableKind}
 use Rattle.intern_log.specs.TextMap.{IsLive}
-use Rattle.intern_log.specs.Now.{Linked, Now, opening, changed_by, now_after_event, now_after, now_of}
-use Rattle.intern_log.specs.Lawful.{IsLinkedDead, MayFollow, IsAllowedFrom, IsLawful}
-use Rattle.intern_log.specs.Sections.{with_event, IsLinkedAs}
-use Rattle.intern_log.specs.Seeded.{seed_after_event, seed_after, IsDeadIn, IsSeeded}
+use Rattle.intern_log.specs.Log.{map_of}
+use Rattle.intern_log.specs.Now.{Now, opening, changed_by, now_after_event, now_after, now_of}
+use Rattle.intern_log.specs.Lawful.{IsLinkedDead, IsQuiet, MayFollow, IsLawful}
+use Rattle.intern_log.specs.Sections.{with_event}
+use Rattle.intern_log.specs.Seeded.{seed_after_event, seed_after, IsDeadIn, IsIdleIn, IsSeeded}
 use Rattle.intern_log.specs.Touches.{is_rehash}
-use Rattle.intern_log.proofs.LawfulLaws.{texts-now_after, IsAllowedFrom-rest}
-use Rattle.intern_log.proofs.Slots.{linked_until_unlink, neither}
-use Rattle.intern_log.proofs.Graced.{put_there, said, open_is}
-use Rattle.intern_log.proofs.OrderlyLaws.{carried, at_event, closed_is_closed, none_locked, free_has_none, lock_is, owner_is}
+use Rattle.intern_log.proofs.LawfulLaws.{texts-now_after, IsLawful-prefix}
+use Rattle.intern_log.proofs.Slots.{neither}
+use Rattle.intern_log.proofs.Graced.{said}
+use Rattle.intern_log.proofs.OrderlyLaws.{carried, at_event}
+use Rattle.intern_log.proofs.Careful.{linked_dead}
+use Rattle.intern_log.proofs.SlotPhases.{linked_slot}
+use Rattle.intern_log.proofs.NowLaws.{no_section_of_log, no_lock_of_log, no_resizing_of_log}
 use Rattle.intern_log.proofs.Stays.{seed_unchanged}
 
 seed-event : (now : Now) (seat : ℕ) (what : What) → (changed_by now seat what).seed ≡ seed_after_event now.seed what
@@ -49,44 +52,41 @@ pub seed_most : (table : TableKind) (log : List Event) → IsLawful table log �
 seed_most table log lawful =
     carried table (λ done now. now.seed ≤ 2) (λ done now e may bound. seed-bound table now e.seat e.what may bound) [] log (opening table.min_level) lawful.allowed (omega arith)
 
--- a slot that a log links, and does not unlink since, is in a chain with that text and handle
-linked_as_is : (table : TableKind) (now : Now) (log : List Event) (s : ℕ) (text : List ℕ) (h : Handle) → IsAllowedFrom table now log → IsLinkedAs log s text h →
-    (born : ℕ) × ((now_after now log).slot s ≡ Linked text h born)
-linked_as_is table now log s text h allowed (front, back, seat, is, at, kept) =
-    let whole = subst (IsAllowedFrom table now) is allowed in
-    let born = (now_after now front).place in
-    let created = now_after_event (now_after now front) (record { seat = seat; what = Create text h }) in
-    let there : created.slot s ≡ Linked text h born = subst (λ x. created.slot x ≡ Linked text h born) at (put_there ((now_after now front).slot) h.slot (Linked text h born)) in (
-      born,
-      ap (λ (n : Now). n.slot s) (ap (now_after now) is ∙ said now front seat (Create text h) back)
-          ∙ linked_until_unlink table created back s text h born there (IsAllowedFrom-rest table now front _ whole).1 kept,
-    )
+-- a slot that is linked and dead by the log's words is so by what the log says, and the other way round
+dead_is : (table : TableKind) (log : List Event) (s : ℕ) → IsLawful table log → IsDeadIn log s ↔ IsLinkedDead (now_of table.min_level log) ((now_of table.min_level log).slot s)
+dead_is table log s lawful = (
+  (λ (text, h, linked, gone).
+      let there = (linked_slot table log s text h linked.0 lawful).1 linked.1 in
+      let dead : ¬ (IsLive ((now_of table.min_level log).texts) h) = subst (λ m. ¬ (IsLive m h)) (sym (texts-now_after (opening table.min_level) log)) gone in
+      subst (IsLinkedDead (now_of table.min_level log)) (sym there) dead),
+  (λ dead.
+      let is = linked_dead (now_of table.min_level log) ((now_of table.min_level log).slot s) dead in
+      let gone : ¬ (IsLive (map_of log) is.1) = subst (λ m. ¬ (IsLive m is.1)) (texts-now_after (opening table.min_level) log) is.4 in
+      (is.0, is.1, (is.2, (linked_slot table log s is.0 is.1 is.2 lawful).0 is.3), gone)),
+)
 
--- a slot that is linked and dead by the log's words is so by what the log says
-dead_is : (table : TableKind) (log : List Event) (s : ℕ) → IsAllowedFrom table (opening table.min_level) log → IsDeadIn log s →
-    let now = now_after (opening table.min_level) log in IsLinkedDead now (now.slot s)
-dead_is table log s allowed (text, h, linked, gone) =
-    let start = opening table.min_level in
-    let there = linked_as_is table start log s text h allowed linked in
-    let dead : ¬ (IsLive ((now_after start log).texts) h) = subst (λ m. ¬ (IsLive m h)) (sym (texts-now_after start log)) gone in
-    subst (IsLinkedDead (now_after start log)) (sym there.1) dead
+-- nothing is going on by the log's words exactly where nothing is by what the log says
+pub quiet_is : (table : TableKind) (log : List Event) → IsLawful table log → IsQuiet (now_of table.min_level log) ↔ IsIdleIn log
+quiet_is table log lawful = (
+  (λ quiet. record {
+    sections = λ j. (no_section_of_log table log j lawful).0 (quiet.sections j);
+    locks = λ row bucket. (no_lock_of_log table log row bucket lawful).0 (quiet.locks row bucket);
+    resizing = (no_resizing_of_log table log lawful).0 quiet.resizing;
+    slots = λ s dead. quiet.dead s ((dead_is table log s lawful).0 dead);
+  }),
+  (λ idle. record {
+    sections = λ seat. (no_section_of_log table log seat lawful).1 (idle.sections seat);
+    locks = λ row bucket. (no_lock_of_log table log row bucket lawful).1 (idle.locks row bucket);
+    resizing = (no_resizing_of_log table log lawful).1 idle.resizing;
+    dead = λ s dead. idle.slots s ((dead_is table log s lawful).1 dead);
+  }),
+)
 
 pub lawful_is_seeded : (table : TableKind) (log : List Event) → IsLawful table log → IsSeeded log
 lawful_is_seeded table log lawful = record {
   by_zero = λ front back k seed is. (at_event table log front back k (Rehash seed) lawful is).1.0;
   next = λ front back k seed is. (at_event table log front back k (Rehash seed) lawful is).1.1 ∙ ap (λ n. n + 1) (seed_is (opening table.min_level) front);
   most = λ front back k seed is. (at_event table log front back k (Rehash seed) lawful is).1.2;
-  sections = λ front back k seed j is opened.
-      let at = at_event table log front back k (Rehash seed) lawful is in
-      let open_there = open_is table (opening table.min_level) front j at.0 opened in
-      closed_is_closed _ _ (at.1.3.sections j) open_there.1;
-  locks = λ front back k seed row bucket j is has.
-      let at = at_event table log front back k (Rehash seed) lawful is in
-      none_locked _ j (at.1.3.locks row bucket) (lock_is table (opening table.min_level) front row bucket j at.0 has);
-  resizing = λ front back k seed j is has.
-      let at = at_event table log front back k (Rehash seed) lawful is in
-      free_has_none _ j at.1.3.resizing (owner_is table (opening table.min_level) front j at.0 has);
-  slots = λ front back k seed s is dead.
-      let at = at_event table log front back k (Rehash seed) lawful is in
-      at.1.3.dead s (dead_is table front s at.0 dead);
+  idle = λ front back k seed is.
+      (quiet_is table front (IsLawful-prefix table front _ (subst (IsLawful table) is lawful))).0 (at_event table log front back k (Rehash seed) lawful is).1.3;
 }

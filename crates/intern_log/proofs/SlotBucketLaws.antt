@@ -1,5 +1,5 @@
 -- The bucket of a slot, by one more event and at its Unlink.
-use Rattle.std.proofs.Common.{◌≡◌, ℕ, false, List, [], Some, refl, ap, subst, ◌∙◌}
+use Rattle.std.proofs.Common.{◌≡◌, ℕ, false, List, Some, refl, ap, subst, ◌∙◌}
 use Rattle.intern_log.specs.declared.event.Handle.{Handle}
 use Rattle.intern_log.specs.declared.event.Event.{Event}
 use Rattle.intern_log.specs.declared.event.What.TheVariants.{Unlink, Rehash}
@@ -10,8 +10,9 @@ use Rattle.intern_log.specs.Sections.{with_event, IsLinkedAs}
 use Rattle.intern_log.specs.Buckets.{bucket_of}
 use Rattle.intern_log.specs.SlotBuckets.{bucket_now, phase_bucket, slot_bucket, IsUnlinkOn}
 use Rattle.intern_log.specs.Touches.{touches_slot, is_rehash}
-use Rattle.intern_log.proofs.LawfulLaws.{IsAllowedFrom-prefix, IsAllowedFrom-rest}
-use Rattle.intern_log.proofs.Careful.{linked_dead, linked_was_created}
+use Rattle.intern_log.proofs.LawfulLaws.{IsAllowedFrom-rest, IsLawful-prefix}
+use Rattle.intern_log.proofs.Careful.{linked_dead}
+use Rattle.intern_log.proofs.SlotPhases.{linked_slot}
 use Rattle.intern_log.proofs.Stays.{slot_unchanged, seed_unchanged}
 
 pub linked_bucket : (now : Now) (row s : ℕ) (text : List ℕ) (h : Handle) (born : ℕ) → now.slot s ≡ Linked text h born → slot_bucket now row s ≡ Some (bucket_now now row text)
@@ -40,6 +41,6 @@ unlink_is_on table log front back seat s row lawful is =
     let dead = linked_dead now (now.slot s) (IsAllowedFrom-rest table start front _ whole).0 in (
       dead.0,
       dead.1,
-      linked_was_created table [] front start s dead.0 dead.1 dead.2 (IsAllowedFrom-prefix table start front _ whole) (λ was. absurd (cc)) dead.3,
+      (dead.2, (linked_slot table front s dead.0 dead.1 dead.2 (IsLawful-prefix table front _ (subst (IsLawful table) is lawful))).0 dead.3),
       (s, refl, linked_bucket now row s dead.0 dead.1 dead.2 dead.3),
     )

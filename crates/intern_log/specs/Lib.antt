@@ -21,3 +21,6 @@ pub mod Short
 pub mod WorkedLog
 pub mod RehashedLog
 pub mod Touches
+pub mod RefilledLog
+pub mod GrownLog
+pub mod Rules

@@ -1,5 +1,5 @@
 -- What a log stands for at its end: the map, the slots, the open sections, the locks, the level, the graces and the seed.
-use Rattle.std.specs.Prelude.{ℕ, ◌+◌, Bool, false, not, ◌&&◌, ◌||◌, if◌then◌else◌, nat_eq, List, [], ◌∷◌, Option, Some, None}
+use Rattle.std.specs.Prelude.{ℕ, ◌+◌, Bool, false, ◌&&◌, ◌||◌, if◌then◌else◌, nat_eq, List, [], ◌∷◌, Option, Some, None}
 use Rattle.std.specs.Option.{option_map}
 use Rattle.intern_log.specs.declared.event.Handle.{Handle}
 use Rattle.intern_log.specs.declared.event.Event.{Event}
@@ -7,6 +7,7 @@ use Rattle.intern_log.specs.declared.event.What.{What}
 use Rattle.intern_log.specs.declared.event.What.TheVariants.{Create, Take, Found, Drop, Perm, Kill, Claim, Free, Open, Close, Grace, Lock, Unlock, Unlink, ResizeTaken, ResizeGiven, Level, Rehash}
 use Rattle.intern_log.specs.TextMap.{TextMap, no_texts}
 use Rattle.intern_log.specs.Log.{next}
+use Rattle.intern_log.specs.Orderly.{is_lock_elsewhere}
 
 -- where a slot is: free; claimed by a seat; in a chain with a text and a handle, since the place of its Create; or taken out of its chain, by a seat at a place
 pub data Phase : Type 0 where
@@ -47,7 +48,7 @@ owner_of (Some r) = Some r.seat
 
 -- the resizing after a Lock of a bucket of this row by this seat
 abbrev pub resizing_after_lock : ℕ → ℕ → Resizing → Resizing
-resizing_after_lock seat row r = record r { replacing = r.replacing || (nat_eq seat r.seat && not (nat_eq row r.level)) }
+resizing_after_lock seat row r = record r { replacing = r.replacing || is_lock_elsewhere r.seat r.level seat row }
 
 -- a function with another value at one place
 abbrev pub with_at : {A : Type 0} → (ℕ → A) → ℕ → A → ℕ → A

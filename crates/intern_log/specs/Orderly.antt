@@ -1,5 +1,5 @@
 -- Sections, locks, levels and kinds in the words of a log: what an orderly log keeps.
-use Rattle.std.specs.Prelude.{◌≡◌, ℕ, ◌+◌, ◌*◌, ◌≤◌, ◌&&◌, Bool, true, false, not, nat_eq, List, [], ◌∷◌, ◌⊎◌}
+use Rattle.std.specs.Prelude.{◌≡◌, ℕ, ◌+◌, ◌*◌, ◌≤◌, ◌&&◌, Bool, true, false, not, nat_eq, List, [], ◌∷◌, length, ◌⊎◌}
 use Rattle.std.specs.List.{list_any}
 use Rattle.intern_log.specs.declared.event.Handle.{Handle}
 use Rattle.intern_log.specs.declared.event.Event.{Event}
@@ -75,16 +75,27 @@ abbrev pub level_after : ℕ → List Event → ℕ
 level_after level [] = level
 level_after level (e ∷ log) = level_after (level_after_event level e.what) log
 
--- whether the event, by this seat, is one by the number: a Lock of a bucket of another row
+-- whether a Lock by this seat, of a bucket of row `locked`, is one by the number, of another row than `row`
+abbrev pub is_lock_elsewhere : ℕ → ℕ → ℕ → ℕ → Bool
+is_lock_elsewhere k row seat locked = nat_eq seat k && not (nat_eq locked row)
+
+-- whether the event, by this seat, is such a Lock, and whether one of the events is
 abbrev pub locks_other_row : ℕ → ℕ → ℕ → What → Bool
-locks_other_row k row seat (Lock r b) = nat_eq seat k && not (nat_eq r row)
+locks_other_row k row seat (Lock r b) = is_lock_elsewhere k row seat r
 locks_other_row k row seat _ = false
+
+abbrev pub some_lock_other_row : ℕ → ℕ → List Event → Bool
+some_lock_other_row k row log = list_any (λ (e : Event). locks_other_row k row e.seat e.what) log
+
+-- the number took the resize lock at the place, where the level was this one, and has not given it back since; `replacing` is whether it has locked a bucket of another row since
+abbrev pub IsResizingAs : ℕ → List Event → ℕ → ℕ → ℕ → Bool → Type 0
+IsResizingAs min_level log k place level replacing = (front back : List Event)
+    × (log ≡ with_event front k ResizeTaken back) × (length front ≡ place) × (list_any (λ (e : Event). is_resize_given e.what) back ≡ false)
+    × (level_after min_level front ≡ level) × (some_lock_other_row k level back ≡ replacing)
 
 -- the row is being replaced: a number has the resize lock, the row's level is the one at which it was taken, and since then that number has locked a bucket of another row
 abbrev pub IsBeingReplaced : ℕ → List Event → ℕ → Type 0
-IsBeingReplaced min_level log row = (front back : List Event) × (k : ℕ)
-    × (log ≡ with_event front k ResizeTaken back) × (list_any (λ (e : Event). is_resize_given e.what) back ≡ false)
-    × (level_after min_level front ≡ row) × (list_any (λ (e : Event). locks_other_row k row e.seat e.what) back ≡ true)
+IsBeingReplaced min_level log row = (k place : ℕ) × IsResizingAs min_level log k place row true
 
 -- an orderly log
 pub record IsOrderly (table : TableKind) (log : List Event) : Type 0 where

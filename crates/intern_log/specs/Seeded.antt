@@ -38,13 +38,16 @@ seed_after seed (e ∷ log) = seed_after (seed_after_event seed e.what) log
 abbrev pub IsDeadIn : List Event → ℕ → Type 0
 IsDeadIn log s = (text : List ℕ) × (h : Handle) × IsLinkedAs log s text h × ¬ (IsLive (map_of log) h)
 
--- a seeded log: each Rehash is by number 0 and has the seed before it plus one, at most 2;
--- where it is, no section is open, no bucket is locked, nobody has the resize lock and no slot is linked and dead
+-- nothing is going on: no section is open, no bucket is locked, nobody has the resize lock, and no slot is linked and dead
+pub record IsIdleIn (log : List Event) : Type 0 where
+  pub sections : (k : ℕ) → ¬ (IsOpenIn log k)
+  pub locks : (row bucket k : ℕ) → ¬ (IsLockedBy log row bucket k)
+  pub resizing : (k : ℕ) → ¬ (HasResizeLock log k)
+  pub slots : (s : ℕ) → ¬ (IsDeadIn log s)
+
+-- a seeded log: each Rehash is by number 0, has the seed before it plus one, at most 2, and is where nothing is going on
 pub record IsSeeded (log : List Event) : Type 0 where
   pub by_zero : (front back : List Event) (k seed : ℕ) → log ≡ with_event front k (Rehash seed) back → k ≡ 0
   pub next : (front back : List Event) (k seed : ℕ) → log ≡ with_event front k (Rehash seed) back → seed ≡ seed_after 0 front + 1
   pub most : (front back : List Event) (k seed : ℕ) → log ≡ with_event front k (Rehash seed) back → seed ≤ 2
-  pub sections : (front back : List Event) (k seed j : ℕ) → log ≡ with_event front k (Rehash seed) back → ¬ (IsOpenIn front j)
-  pub locks : (front back : List Event) (k seed row bucket j : ℕ) → log ≡ with_event front k (Rehash seed) back → ¬ (IsLockedBy front row bucket j)
-  pub resizing : (front back : List Event) (k seed j : ℕ) → log ≡ with_event front k (Rehash seed) back → ¬ (HasResizeLock front j)
-  pub slots : (front back : List Event) (k seed s : ℕ) → log ≡ with_event front k (Rehash seed) back → ¬ (IsDeadIn front s)
+  pub idle : (front back : List Event) (k seed : ℕ) → log ≡ with_event front k (Rehash seed) back → IsIdleIn front

@@ -1,6 +1,6 @@
 //! Laws of lawful logs: each sentence that a reader believes, from the one definition that proofs work with.
 //! Each function does nothing: its contract is the law.
-ghost use Rattle.std.specs.Prelude.{◌≡◌, ℕ, ◌<◌, true, List, ◌++◌};
+ghost use Rattle.std.specs.Prelude.{◌≡◌, ◌↔◌, ℕ, ◌<◌, true, List, ◌++◌};
 ghost use Rattle.std.specs.List.{list_any};
 ghost use Rattle.intern_log.specs.declared.event.Event.{Event};
 ghost use Rattle.intern_log.specs.declared.event.Handle.{Handle};
@@ -11,9 +11,10 @@ ghost use Rattle.intern_log.specs.Own.{gains, losses};
 ghost use Rattle.intern_log.specs.Now.{now_of};
 ghost use Rattle.intern_log.specs.declared.event.TableKind.{TableKind};
 ghost use Rattle.intern_log.specs.Lawful.{IsLawful};
-ghost use Rattle.intern_log.specs.Sections.{IsGraced, IsCareful};
+ghost use Rattle.intern_log.specs.Sections.{IsGraced, IsCareful, IsCreatedByItsClaimer, IsFreedByItsOwner};
 ghost use Rattle.intern_log.specs.Orderly.{IsOrderly};
 ghost use Rattle.intern_log.specs.Seeded.{IsSeeded};
+ghost use Rattle.intern_log.specs.Rules.{KeepsTheRules};
 ghost use Rattle.intern_log.specs.Ledger.{MeetsLedger};
 
 /// A lawful log is legal.
@@ -51,6 +52,21 @@ pub fn lawful_logs_are_seeded()
     ensures law { (table : TableKind) (log : List Event) → IsLawful table log → IsSeeded log }
 {}
 
+/// In a lawful log an entry is created only in a slot that its own seat claimed.
+pub fn lawful_logs_create_in_claimed_slots()
+    ensures law { (table : TableKind) (log : List Event) → IsLawful table log → IsCreatedByItsClaimer log }
+{}
+
+/// In a lawful log a slot is freed by the seat that claimed or unlinked it.
+pub fn lawful_logs_free_by_the_owner()
+    ensures law { (table : TableKind) (log : List Event) → IsLawful table log → IsFreedByItsOwner log }
+{}
+
+/// Lawful logs are exactly those that keep all these rules.
+pub fn lawful_logs_keep_exactly_the_rules()
+    ensures law { (table : TableKind) (log : List Event) → IsLawful table log ↔ KeepsTheRules table log }
+{}
+
 /// In a lawful Counted log the count of an entry is what all callers hold.
 pub fn lawful_logs_meet_the_ledger()
     ensures law { (table : TableKind) (log : List Event) → table.kind ≡ Counted → IsLawful table log → MeetsLedger log }
@@ -80,6 +96,9 @@ mod tests {
         lawful_logs_are_careful();
         lawful_logs_are_orderly();
         lawful_logs_are_seeded();
+        lawful_logs_create_in_claimed_slots();
+        lawful_logs_free_by_the_owner();
+        lawful_logs_keep_exactly_the_rules();
         lawful_logs_meet_the_ledger();
         held_handles_are_live();
         gone_handles_never_come_back();

@@ -1,0 +1,5 @@
+use Rattle.intern_log.proofs.NowLaws.{no_resizing_of_log}
+use Rattle.intern_log.proofs.now_laws.no_resizing_of_now.Goals as goal
+
+pub returns : goal.returns
+returns c = record { law = no_resizing_of_log }
