@@ -22,3 +22,6 @@ pub mod CallerSums
 pub mod CallerHolds
 pub mod SlotBucketLaws
 pub mod WorkedLogLaws
+pub mod Changed
+pub mod CauseLaws
+pub mod WindowHolds
