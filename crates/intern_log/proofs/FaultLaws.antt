@@ -8,7 +8,8 @@ use Rattle.intern_log.specs.declared.event.What.TheVariants.{Create, Take, Found
 use Rattle.intern_log.specs.TextMap.{TextMap, no_texts}
 use Rattle.intern_log.specs.Log.{next, Allows, map_of, IsLegal}
 use Rattle.intern_log.specs.Own.{is_visible}
-use Rattle.intern_log.specs.Faults.{IsFirstFault, IsNotAllowedAt}
+use Rattle.intern_log.specs.Counts.{is_create}
+use Rattle.intern_log.specs.Faults.{IsFirstFault, IsNotAllowedAt, ReachesCreate}
 use Rattle.intern_log.proofs.Logs.{map_after-append, IsLegal-one_more}
 
 -- an event that the map does not allow is visible
@@ -55,3 +56,7 @@ module _ (log : List Event) (i : ℕ) (e : Event) (inside : i < length log) (is 
 
   pub IsLegal-up_to : IsLegal (take i log) → Allows (map_of (take i log)) e.what → IsLegal (take (i + 1) log)
   IsLegal-up_to legal allowed = subst IsLegal (sym up_to) ((IsLegal-one_more (take i log) e).1 (legal, allowed))
+
+  -- a Create that is allowed
+  pub ReachesCreate-at : IsLegal (take i log) → Allows (map_of (take i log)) e.what → is_create e.what ≡ true → ReachesCreate IsLegal log
+  ReachesCreate-at legal allowed made = (take i log, drop (suc i) log, e, around, made, (IsLegal-one_more (take i log) e).1 (legal, allowed))

@@ -29,3 +29,6 @@ pub mod RefilledLogLaws
 pub mod NowLaws
 pub mod GrownLogLaws
 pub mod RuleLaws
+pub mod Changed
+pub mod CauseLaws
+pub mod WindowHolds

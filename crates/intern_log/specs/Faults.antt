@@ -3,6 +3,7 @@ use Rattle.std.specs.Prelude.{◌≡◌, ℕ, List, [], ◌∷◌, ◌++◌, len
 use Rattle.intern_log.specs.declared.event.Event.{Event}
 use Rattle.intern_log.specs.Log.{map_of, Allows}
 use Rattle.intern_log.specs.Own.{is_visible}
+use Rattle.intern_log.specs.Counts.{is_create}
 
 -- the first place at which a log is not as it should be: what stands before it is, and with its event it is no longer
 abbrev pub IsFirstFault : (List Event → Type 0) → List Event → ℕ → Type 0
@@ -11,3 +12,7 @@ IsFirstFault Right log n = (front : List Event) × (back : List Event) × (e : E
 -- the event at this place is visible, and the map of what stands before it does not allow it
 abbrev pub IsNotAllowedAt : List Event → ℕ → Type 0
 IsNotAllowedAt log n = (front : List Event) × (back : List Event) × (e : Event) × (log ≡ front ++ e ∷ back) × (length front ≡ n) × (is_visible e.what ≡ true) × (¬ (Allows (map_of front) e.what))
+
+-- the log has a Create up to which, and with which, it is as it should be
+abbrev pub ReachesCreate : (List Event → Type 0) → List Event → Type 0
+ReachesCreate Right log = (front : List Event) × (back : List Event) × (e : Event) × (log ≡ front ++ e ∷ back) × (is_create e.what ≡ true) × Right (front ++ e ∷ [])

@@ -17,6 +17,7 @@ pub mod Kept
 pub mod Faults
 pub mod Callers
 pub mod SlotBuckets
+pub mod CauseEvents
 pub mod Short
 pub mod WorkedLog
 pub mod RehashedLog

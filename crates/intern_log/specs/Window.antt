@@ -47,3 +47,11 @@ IsLiteralList [] whats = whats ≡ []
 IsLiteralList (literal ∷ literals) whats =
     (h : Handle) × (what : What) × (rest : List What)
     × IsWeakIntern literal h what × (whats ≡ what ∷ rest) × IsLiteralList literals rest
+
+-- what happened in each of the events, by whatever number
+abbrev pub whats_of : List Event → List What
+whats_of events = map (λ (e : Event). e.what) events
+
+-- the events, by whatever numbers, are the window list of the names
+abbrev pub IsWindowListOf : ℕ → List (List ℕ) → List Event → Type 0
+IsWindowListOf hold names events = IsWindowList hold names (whats_of events)

@@ -1,17 +1,19 @@
 //! The first event of a list that no table can have made there.
-ghost use Rattle.std.specs.Prelude.{IfOk, IfSome, MatchOption};
+ghost use Rattle.std.specs.Prelude.{IfOk, OnErr, IfSome, MatchOption};
 ghost use Rattle.intern_log.specs.Log.{IsLegal};
-ghost use Rattle.intern_log.specs.Faults.{IsFirstFault, IsNotAllowedAt};
+ghost use Rattle.intern_log.specs.Faults.{IsFirstFault, IsNotAllowedAt, ReachesCreate};
 
 use crate::event::Event;
 use crate::replay::Replay;
 use std::alloc::{AllocError, Global};
 
 /// The place, from 0, of the first event that the map of those before it does not allow, or `None`
-/// where the map allows each. With n events it compares about n log n texts and handles.
+/// where the map allows each. Only want of memory fails, and only a Create that the map allows takes
+/// memory. With n events it compares about n log n texts and handles.
 pub fn first_fault(alloc: Global, events: &[Event]) -> Result<Option<usize>, AllocError>
     ensures first { IfOk result (λ answer. MatchOption answer (IsLegal events.now) (IsFirstFault IsLegal events.now)) }
     ensures not_allowed { IfOk result (λ answer. IfSome answer (IsNotAllowedAt events.now)) }
+    ensures memory { OnErr result (ReachesCreate IsLegal events.now) }
 {
     let mut replay = Replay::new(alloc);
     for (place, event) in events.iter().enumerate() {

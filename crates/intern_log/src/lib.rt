@@ -12,6 +12,8 @@
 
 pub mod bucket_laws;
 pub mod caller_laws;
+pub mod cause_laws;
+pub mod changes_laws;
 pub mod event;
 pub mod event_laws;
 pub mod fault;
@@ -28,6 +30,7 @@ pub mod seed_laws;
 pub mod stays_laws;
 pub mod text;
 pub mod window_laws;
+pub mod window_list_laws;
 pub mod worked_log;
 
 pub use event::{Entry, Event, Handle, Kind, PERMANENT, Released, TableKind, What};

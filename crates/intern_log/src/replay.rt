@@ -1,9 +1,10 @@
 //! A map from texts to entries that follows a log, event by event.
-ghost use Rattle.std.specs.Prelude.{◌≡◌, ◌↔◌, ℕ, ◌≤◌, IsTrue, List, IfSome, IfNone, OnOk, OnErr};
+ghost use Rattle.std.specs.Prelude.{◌≡◌, ◌↔◌, ℕ, ◌≤◌, true, IsTrue, List, IfSome, IfNone, OnOk, OnErr};
 ghost use Rattle.intern_log.specs.declared.event.Entry.{Entry};
 ghost use Rattle.intern_log.specs.declared.event.Handle.{Handle};
 ghost use Rattle.intern_log.specs.TextMap.{no_texts, entry_of, HasHandle, IsLive};
 ghost use Rattle.intern_log.specs.Log.{next, Allows};
+ghost use Rattle.intern_log.specs.Counts.{is_create};
 ghost use Rattle.intern_log.specs.Kept.{text_map};
 
 use crate::event::{Entry, Handle, PERMANENT, What};
@@ -121,6 +122,7 @@ impl Replay {
         requires allowed { Allows self.old what.now }
         ensures ok { OnOk result (self.new ≡ next self.old what.now) }
         ensures err { OnErr result (self.new ≡ self.old) }
+        ensures memory { OnErr result (is_create what.now ≡ true) }
     {
         match what {
             What::Create(text, handle) => return self.create(text.bytes(), *handle),

@@ -44,19 +44,21 @@ impl Model for Text {
 }
 
 impl Text {
-    /// A text of these bytes. `TooLong` comes exactly where there are more than 65,535.
+    /// A text of these bytes. `TooLong` comes exactly where there are more than 65,535. The empty text
+    /// takes no memory.
     pub fn of(alloc: Global, bytes: &[u8]) -> Result<Text, TextFault>
         ensures too_long { MAX_TEXT < length bytes.now → result ≡ Err (TextFault.TooLong (length bytes.now)) }
         ensures short { length bytes.now ≤ MAX_TEXT → MatchResult result (λ text. text ≡ bytes.now) (λ fault. fault ≡ TextFault.OutOfMemory) }
+        ensures memory { result ≡ Err TextFault.OutOfMemory → 0 < length bytes.now }
     {
         if bytes.len() > MAX_TEXT {
             return Err(TextFault::TooLong {
                 length: bytes.len(),
             });
         }
-        Ok(Text {
-            bytes: Vec::from_slice(alloc, bytes)?,
-        })
+        let mut copy = Vec::with_capacity(alloc, bytes.len())?;
+        copy.extend_from_slice(bytes)?;
+        Ok(Text { bytes: copy })
     }
 
     /// The text's bytes.
@@ -77,6 +79,8 @@ mod tests {
     fn texts_keep_their_bytes(rt: HostRuntime) -> Result<(), Fail> {
         let text = Text::of(rt.alloc(), b"ab")?;
         assert_eq!(rt; text.bytes(), b"ab".as_slice());
+        let empty = Text::of(rt.alloc(), b"")?;
+        assert_eq!(rt; empty.bytes(), b"".as_slice());
 
         let long = vec![in rt.alloc(); b'a'; 65_536]?;
         match Text::of(rt.alloc(), long.as_slice()) {

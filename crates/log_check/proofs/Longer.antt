@@ -7,7 +7,8 @@ use Rattle.std.proofs.lemmas.List.Folds.{list_any-append}
 use Rattle.intern_log.specs.declared.event.Event.{Event}
 use Rattle.intern_log.specs.declared.event.TableKind.{TableKind}
 use Rattle.intern_log.specs.Log.{next, Allows, creates, IsFresh}
-use Rattle.intern_log.specs.Faults.{IsFirstFault}
+use Rattle.intern_log.specs.Faults.{IsFirstFault, ReachesCreate}
+use Rattle.intern_log.specs.Counts.{is_create}
 use Rattle.intern_log.specs.TextMap.{TextMap}
 use Rattle.intern_log.specs.Now.{Now, opening, now_of}
 use Rattle.intern_log.specs.Lawful.{IsLawful}
@@ -69,6 +70,11 @@ pub fault_at : (table : TableKind) (log : List Event) (i : ℕ) (e : Event) (b :
     b ≡ false → (b ≡ true) ↔ IsLawful table (take i log ++ e ∷ []) → IsFirstFault (IsLawful table) log i
 fault_at table log i e b below is lawful no_ says =
     (take i log, drop (suc i) log, e, split_at log i e below is, length-take-le i log (omega (arith, below)), lawful, (λ longer. let yes = says.1 longer in absurd (cc)))
+
+-- a Create with which a lawful log stays lawful
+pub create_at : (table : TableKind) (log : List Event) (i : ℕ) (e : Event) → i < length log → e ≡ get_or log i e →
+    is_create e.what ≡ true → IsLawful table (take i log ++ e ∷ []) → ReachesCreate (IsLawful table) log
+create_at table log i e below is made lawful = (take i log, drop (suc i) log, e, split_at log i e below is, made, lawful)
 
 -- the map allows the last event of a lawful log
 pub last_is_allowed : (table : TableKind) (before : List Event) (e : Event) (m : TextMap) → m ≡ (now_of table.min_level before).texts → IsLawful table (before ++ e ∷ []) → Allows m e.what

@@ -1,6 +1,6 @@
 //! The first place at which a list of events is no lawful log.
-ghost use Rattle.std.specs.Prelude.{◌≡◌, ◌↔◌, [], ◌∷◌, ◌++◌, IsTrue, IfOk, MatchOption};
-ghost use Rattle.intern_log.specs.Faults.{IsFirstFault};
+ghost use Rattle.std.specs.Prelude.{◌≡◌, ◌↔◌, [], ◌∷◌, ◌++◌, IsTrue, IfOk, OnErr, MatchOption};
+ghost use Rattle.intern_log.specs.Faults.{IsFirstFault, ReachesCreate};
 ghost use Rattle.intern_log.specs.Lawful.{IsLawful};
 ghost use Rattle.intern_log.specs.Now.{now_of};
 
@@ -19,7 +19,7 @@ fn stays_lawful(table: &TableKind, before: &[Event], texts: &Replay, event: &Eve
 
 /// The first place at which a list of events is no lawful log of such a table, counted from 0: what
 /// stands before it is one, and with its event it is one no longer. `None` comes exactly for a lawful
-/// log. Only want of memory fails.
+/// log. Only want of memory fails, and only a Create up to which the list is lawful takes memory.
 pub fn first_unlawful(
     alloc: Global,
     table: &TableKind,
@@ -28,6 +28,7 @@ pub fn first_unlawful(
     ensures first { IfOk result (λ answer. MatchOption answer
         (IsLawful table.now events.now)
         (λ place. IsFirstFault (IsLawful table.now) events.now place)) }
+    ensures memory { OnErr result (ReachesCreate (IsLawful table.now) events.now) }
 {
     let mut texts = Replay::new(alloc);
     for (place, event) in events.iter().enumerate() {

@@ -1,12 +1,12 @@
 -- One step of the scanner.
-use Rattle.std.proofs.Common.{◌≡◌, ℕ, ◌+◌, ◌≤◌, List, [], ◌∷◌, ◌++◌, length, drop, Option, Some, None, option_to_list, sym, ◌∙◌, ap, arith, ◌-◌, append_assoc, drop-drop, length-drop}
+use Rattle.std.proofs.Common.{◌≡◌, ℕ, ◌+◌, ◌≤◌, List, [], ◌∷◌, ◌++◌, length, drop, Option, Some, None, option_to_list, sym, ◌∙◌, ap, arith, ◌-◌, append_assoc, drop-drop, length-drop, length-append, ◌<◌}
 use Rattle.std.proofs.lemmas.List.{append-nil, drop_all}
 use Rattle.std.specs.List.{cons_option}
 use Rattle.name_scan.specs.declared.Piece.{Piece}
 use Rattle.name_scan.specs.declared.Token.{Token}
 use Rattle.name_scan.specs.Pieces.{piece_len, IsPiece, IsCut}
-use Rattle.name_scan.specs.Tokens.{token_at, tokens_at, tokens}
-use Rattle.name_scan.proofs.Cuts.{FitsIn, piece_fits, tokens_of_cut}
+use Rattle.name_scan.specs.Tokens.{token_at, tokens_at, tokens, pieces}
+use Rattle.name_scan.proofs.Cuts.{FitsIn, piece_fits, pieces_cut, tokens_of_cut}
 
 -- what was found, and then the tokens of the pieces of what is left, are all the tokens
 pub record Completes (bs : List ℕ) (at : ℕ) (found : List Token) : Type 0 where
@@ -33,3 +33,12 @@ completes_more bs at p found done piece =
 
 pub completes_all : (bs : List ℕ) (at : ℕ) (found : List Token) → Completes bs at found → length bs ≤ at → found ≡ tokens bs
 completes_all bs at found done whole = sym (append-nil found) ∙ done.all [] (drop_all at bs whole)
+
+-- a piece with a token among them
+pub has_a_token : (bs : List ℕ) (at : ℕ) (p : Piece) (token : Token) (found : List Token) → Completes bs at found → IsPiece p (drop at bs) → token_at at p ≡ Some token → 0 < length (tokens bs)
+has_a_token bs at p token found done piece is =
+    let beyond = drop (at + piece_len p) bs in
+    let all = (completes_more bs at p found done piece).all (pieces beyond) (pieces_cut beyond) in
+    let rest = tokens_at (at + piece_len p) (pieces beyond) in
+    let one : (found ++ token ∷ []) ++ rest ≡ tokens bs = ap (λ (o : Option Token). (found ++ option_to_list o) ++ rest) (sym is) ∙ all in
+    omega (arith, ap length one, length-append (found ++ token ∷ []) rest, length-append found (token ∷ []))

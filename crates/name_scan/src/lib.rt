@@ -4,7 +4,7 @@
 //! neither kind. A run that begins with no digit is a name, and the text of a literal is a literal.
 #![tactic(auto)]
 
-ghost use Rattle.std.specs.Prelude.{◌≡◌, ◌+◌, ◌^◌, ◌<◌, ◌≤◌, length, IfOk, IsTrue, slice_index, slice_range};
+ghost use Rattle.std.specs.Prelude.{◌≡◌, ◌+◌, ◌^◌, ◌<◌, ◌≤◌, length, IfOk, OnErr, IsTrue, slice_index, slice_range};
 ghost use Rattle.name_scan.specs.Places.{IsWithin};
 ghost use Rattle.name_scan.specs.Pieces.{is_name_byte, piece_len, IsRun, IsLiteralText, EndsText, IsPiece};
 ghost use Rattle.name_scan.specs.Tokens.{token_at, tokens};
@@ -164,9 +164,10 @@ pub fn first_piece(bytes: &[u8]) -> Piece
 }
 
 /// The names and literals of a file's bytes, in the order of their starts. The only error is want of
-/// memory.
+/// memory, and bytes with no name and no literal take none.
 pub fn scan(alloc: Global, bytes: &[u8]) -> Result<Vec<Token>, AllocError>
     ensures tokens { IfOk result (λ found. found.items ≡ tokens bytes.now) }
+    ensures memory { OnErr result (0 < length (tokens bytes.now)) }
 {
     let mut found = Vec::new(alloc);
     let mut at = 0;

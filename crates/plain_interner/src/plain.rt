@@ -1,5 +1,5 @@
 //! The interner.
-ghost use Rattle.std.specs.Prelude.{◌≡◌, ℕ, ◌-◌, ◌^◌, ◌<◌, ◌≤◌, ◌↔◌, IsTrue, List, length, IfOk, OnErr};
+ghost use Rattle.std.specs.Prelude.{◌≡◌, ℕ, ◌-◌, ◌^◌, ◌<◌, ◌≤◌, ◌↔◌, IsTrue, List, None, length, IfOk, OnErr};
 ghost use Rattle.std.specs.Bool.{OnTrue, OnFalse};
 ghost use Rattle.intern_log.specs.declared.event.Entry.{Entry};
 ghost use Rattle.intern_log.specs.TextMap.{no_texts, entry_of, live_texts, IsLive};
@@ -81,6 +81,7 @@ impl Plain {
         ensures new_slot { IfOk result (HasNewSlot self.old) }
         ensures kinds { IfOk result (IsOfKind self.old.kind) }
         ensures err { OnErr result (self.new ≡ self.old) }
+        ensures memory { OnErr result (entry_of self.old.texts text.now ≡ None) }
     {
         let Some(entry) = self.replay.entry(text) else {
             let handle = Handle {

@@ -1,10 +1,10 @@
-use Rattle.std.proofs.Common.{◌≡◌, ◌∙◌, ◌+◌, ◌++◌, Option, option_to_list, Vec, sym, ap, drop}
+use Rattle.std.proofs.Common.{rules, ◌≡◌, ◌∙◌, ◌+◌, ◌++◌, Option, option_to_list, Vec, sym, ap, drop}
 use Rattle.std.proofs.lemmas.List.{take_rest, append-nil}
 use Rattle.std.specs.declared.alloc.Global.{Global}
 use Rattle.name_scan.specs.declared.Token.{Token}
 use Rattle.name_scan.specs.Pieces.{piece_len, IsPiece}
 use Rattle.name_scan.specs.Tokens.{token_at}
-use Rattle.name_scan.proofs.Scans.{Completes, completes_first, completes_more, completes_all}
+use Rattle.name_scan.proofs.Scans.{Completes, completes_first, completes_more, completes_all, has_a_token}
 use Rattle.name_scan.proofs.scan.Goals as goal
 use Rattle.name_scan.proofs.scan.Goals.{in-Some+in_ok-push, in_default}
 
@@ -23,5 +23,11 @@ loop-at-preserved c =
     ] in
     rw (found, c.len-at.ensures) more
 
-pub returns : goal.returns
-returns c = record { tokens = completes_all _ _ _ c.loop-at.invariant c.loop-at-test.false }
+pub returns-clause-tokens : goal.returns-clause-tokens
+returns-clause-tokens c = completes_all _ _ _ c.loop-at.invariant c.loop-at-test.false
+
+pub returns-in_err-push-clause-memory : goal.returns-in_err-push-clause-memory
+returns-in_err-push-clause-memory c =
+    let piece : IsPiece c.first_piece-piece.result (drop c.loop-at.at c.args.bytes.now) = rw take_rest at c.first_piece-piece.ensures in
+    let some = has_a_token _ _ c.first_piece-piece.result _ _ c.loop-at.invariant piece (sym c.in-Some.ensures) in
+    search (rules, some)
