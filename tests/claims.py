@@ -83,13 +83,13 @@ class Crate:
 
     def calls(self):
         """Each public function: its paths, the shortest first, its clauses, and those that a trait gives it."""
-        of_trait = {(trait, name): clauses for _, owner, trait, name, _, clauses in self.functions if owner == trait}
+        of_trait = {(trait, name): clauses for _, owner, trait, name, _, clauses in self.functions if trait and owner == trait}
         for module, owner, trait, name, is_public, clauses in self.functions:
             if owner is None:
                 paths = self.paths_of(module, name)
             else:
                 paths = [f"{path}::{name}" for path in self.paths_of(self.types.get(owner, ("",)), owner)]
-            given = of_trait.get((trait, name), []) if owner != trait else []
+            given = of_trait.get((trait, name), []) if trait and owner != trait else []
             if is_public and paths:
                 yield paths, clauses, given
 
