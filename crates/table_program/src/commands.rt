@@ -103,6 +103,7 @@ pub fn run_plain<F: Files, K: Sink>(
     ensures statuses { IsOneOf (0 ∷ 1 ∷ 2 ∷ 3 ∷ 4 ∷ 6 ∷ []) result.status }
     ensures note { IsPlainNote result.status result.note }
 
+    ensures files_untouched { result.status ≡ 1 → files.new ≡ files.old }
     ensures keeps { (name : List ℕ) → F.bytes_of files.new name ≡ F.bytes_of files.old name }
     ensures files_never_fall { (name : List ℕ) → F.faults files.old name ≤ F.faults files.new name }
     ensures out_never_falls { K.faults out.old ≤ K.faults out.new }
@@ -157,6 +158,7 @@ pub fn run<R: Threads + Wait + Sync, F: Files, K: Sink, P: Pace>(
     ensures statuses { IsOneOf (0 ∷ 1 ∷ 2 ∷ 3 ∷ 4 ∷ 6 ∷ []) result.status }
     ensures note { IsPlainNote result.status result.note }
 
+    ensures files_untouched { result.status ≡ 1 → files.new ≡ files.old }
     ensures keeps { (name : List ℕ) → F.bytes_of files.new name ≡ F.bytes_of files.old name }
     ensures files_never_fall { (name : List ℕ) → F.faults files.old name ≤ F.faults files.new name }
     ensures out_never_falls { K.faults out.old ≤ K.faults out.new }
