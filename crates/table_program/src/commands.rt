@@ -2,7 +2,6 @@
 ghost use Rattle.std.specs.Prelude.{◌≡◌, ◌≢◌, ℕ, ◌<◌, ◌≤◌, ◌↔◌, ◌⊎◌, List, [], ◌∷◌, length, Option, Some, None, IsSome, IfSome};
 ghost use Rattle.std.specs.Option.{option_copied};
 ghost use Rattle.table_program.specs.Limits.{limit_note};
-ghost use Rattle.table_program.specs.declared.limits.TheConstants.{MOST_BYTES};
 ghost use Rattle.io_edge.specs.Faults.{Rose};
 ghost use Rattle.table_program.specs.Words.{plain_name};
 ghost use Rattle.table_program.specs.PlainRun.{told_file, NamedRose, IsOneOf, IsPlainNote, status_of, WritesReport, WritesPartOfReport};
@@ -29,7 +28,7 @@ fn plain_name(words: &[String]) -> Option<&str>
 
 /// Writes the report of a file's bytes, where they are within the limits.
 fn write_report<K: Sink>(alloc: Global, bytes: &[u8], out: &mut K) -> Outcome
-    requires few { length bytes.now ≤ MOST_BYTES }
+    requires few { length bytes.now ≤ 67108864 }
     ensures report { result.status ≡ 0 → WritesReport bytes.now (K.written out.old) (K.written out.new) }
     ensures part_of_report { result.status ≡ 3 → WritesPartOfReport bytes.now (K.written out.old) (K.written out.new) }
     ensures write_fault { result.status ≡ 3 → Rose (K.faults out.old) (K.faults out.new) }
