@@ -1,8 +1,13 @@
-/// A hook that is called before each call of a worker, by which a test may hold the worker.
+/// A hook that is called before the calls of a run's workers, by which a test may hold a worker.
 ///
-/// It has no say in any contract: what a worker does is the same under every pace.
+/// Workers and their calls are counted from 0. A worker calls `before` before each of its calls of a
+/// table, with its own number and the number of the call, which goes on over the whole run. The service
+/// worker calls it once a round, before it begins to serve, with the number of workers and the number of
+/// the round.
+///
+/// It has no say in any clause: what is promised of a run is the same under every pace.
 pub trait Pace: Sync {
-    /// Comes just before the call of that number, counted from 1, of the worker of that number.
+    /// Comes just before that call of that worker, or before that round of the service worker.
     fn before(&self, worker: u32, call: u64);
 }
 

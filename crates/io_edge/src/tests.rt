@@ -36,5 +36,5 @@ fn standard_output_takes_bytes(rt: HostRuntime) {
 
 #[test]
 fn no_pace_returns() {
-    NoPace.before(0, 1);
+    NoPace.before(0, 0);
 }

@@ -3,3 +3,4 @@ pub mod Cuts
 pub mod Scans
 pub mod Standing
 pub mod TokenSizes
+pub mod Counts

@@ -74,14 +74,20 @@ piece_within p bs at within piece =
 rest_cut : (p : Piece) (ps : List Piece) (bs : List ℕ) (at : ℕ) → IsCut ps (drop (piece_len p) (drop at bs)) → IsCut ps (drop (at + piece_len p) bs)
 rest_cut p ps bs at cut = rw drop-drop at cut
 
+-- the token of the piece at a place lies within the bytes
+pub token_in_bytes : (p : Piece) (bs : List ℕ) (at : ℕ) → at ≤ length bs → IsPiece p (drop at bs) → IfSome (token_at at p) (IsWithin bs)
+token_in_bytes p bs at within piece =
+    let inside : at + piece_len p ≤ length bs = piece_within p bs at within piece in
+    IfSome-weaker (StandsIn at (at + piece_len p)) (IsWithin bs) (token_at at p)
+    (λ t stands. record { ordered = stands.ordered; within = omega (arith, stands.ends) })
+    (token_within p at)
+
 pub within_bytes : (ps : List Piece) (bs : List ℕ) (at : ℕ) → at ≤ length bs → IsCut ps (drop at bs) → All (IsWithin bs) (tokens_at at ps)
 within_bytes [] bs at within cut = All-nil (IsWithin bs)
 within_bytes (p ∷ ps) bs at within cut =
     let inside : at + piece_len p ≤ length bs = piece_within p bs at within cut.0 in
     All-cons_option (IsWithin bs) (token_at at p) (tokens_at (at + piece_len p) ps)
-    (IfSome-weaker (StandsIn at (at + piece_len p)) (IsWithin bs) (token_at at p)
-    (λ t stands. record { ordered = stands.ordered; within = omega (arith, stands.ends) })
-    (token_within p at))
+    (token_in_bytes p bs at within cut.0)
     (within_bytes ps bs (at + piece_len p) inside (rest_cut p ps bs at cut.1))
 
 -- a byte of what is left from a place on

@@ -1,5 +1,5 @@
 -- The names and literals of a file, as texts.
-use Rattle.std.specs.Prelude.{ℕ, Bool, true, false, List, map, filter, slice_range}
+use Rattle.std.specs.Prelude.{ℕ, Bool, true, false, List, length, map, filter, find, nat_lt, Option, slice_range}
 use Rattle.name_scan.specs.declared.Token.{Token}
 use Rattle.name_scan.specs.declared.TokenKind.{TokenKind}
 use Rattle.name_scan.specs.declared.TokenKind.TheVariants.{Name, Literal}
@@ -34,3 +34,11 @@ literals_of bytes = literals_among bytes (tokens bytes)
 -- the texts of all tokens, in order
 abbrev pub texts_among : List ℕ → List Token → List (List ℕ)
 texts_among bytes found = map (text_of bytes) found
+
+-- the texts of a file's names and literals, in order
+abbrev pub texts_of : List ℕ → List (List ℕ)
+texts_of bytes = texts_among bytes (tokens bytes)
+
+-- the length of the first text that is longer than `most`
+abbrev pub first_longer : ℕ → List (List ℕ) → Option ℕ
+first_longer most texts = find (λ n. nat_lt most n) (map length texts)

@@ -11,7 +11,10 @@ ghost use Rattle.name_scan.specs.Tokens.{token_at, tokens};
 
 use std::alloc::{AllocError, Global};
 
+mod census;
 pub mod laws;
+
+pub use census::{Census, count_tokens};
 
 /// The byte before and behind the text of a literal.
 const QUOTE: u8 = b'"';
@@ -195,6 +198,27 @@ mod tests {
         laws::tokens_are_in_order();
         laws::tokens_are_in_place();
         laws::tokens_are_no_more_than_bytes();
+    }
+
+    #[test]
+    fn counts_names_and_literals(rt: HostRuntime) {
+        let bytes = b"a 9z \"bb\" ccc \"\" \"dddd";
+        let all = Census {
+            names: 2,
+            literals: 3,
+            first_longer: None,
+        };
+        assert_eq!(rt; count_tokens(bytes, 4), all);
+        let three = Census {
+            first_longer: Some(4),
+            ..all
+        };
+        assert_eq!(rt; count_tokens(bytes, 3), three);
+        let two = Census {
+            first_longer: Some(3),
+            ..all
+        };
+        assert_eq!(rt; count_tokens(bytes, 2), two);
     }
 
     #[test]

@@ -1,7 +1,6 @@
 -- The limits of the input of `plain`.
 use Rattle.std.specs.Prelude.{ℕ, ◌+◌, ◌≤◌, nat_lt, List, length, map, find, Option, Some, None, if◌then◌else◌}
 use Rattle.std.specs.Option.{option_map, option_or}
-use Rattle.intern_log.specs.declared.text.TheConstants.{MAX_TEXT}
 use Rattle.name_scan.specs.declared.Token.{Token}
 use Rattle.name_scan.specs.FileTexts.{text_of, texts_among, names_among, literals_among}
 use Rattle.name_scan.specs.Tokens.{tokens}
@@ -10,9 +9,12 @@ use Rattle.table_program.specs.declared.outcome.Limit.TheVariants.{Bytes, Text, 
 use Rattle.table_program.specs.declared.outcome.Note.{Note}
 use Rattle.table_program.specs.declared.outcome.Note.TheVariants as note
 
--- how many bytes, names and literals there may be
+-- how many bytes there may be in a file and in a text, and how many names and literals
 abbrev pub most_bytes : ℕ
 most_bytes = 67108864
+
+abbrev pub most_text : ℕ
+most_text = 65535
 
 abbrev pub most_names : ℕ
 most_names = 1048576
@@ -22,7 +24,7 @@ most_literals = 1048576
 
 -- the length of the first text that is too long
 abbrev pub long_length : List (List ℕ) → Option ℕ
-long_length texts = find (λ n. nat_lt MAX_TEXT n) (map length texts)
+long_length texts = find (λ n. nat_lt most_text n) (map length texts)
 
 -- the note of a number that passes its limit
 abbrev pub above : Limit → ℕ → ℕ → Option Note
@@ -41,4 +43,4 @@ limit_note bytes = if nat_lt most_bytes (length bytes) then Some (note.Limit Byt
 
 -- the token's text is no longer than a text may be
 abbrev pub IsShort : List ℕ → Token → Type 0
-IsShort bytes token = length (text_of bytes token) ≤ MAX_TEXT
+IsShort bytes token = length (text_of bytes token) ≤ most_text

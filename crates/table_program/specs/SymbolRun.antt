@@ -2,7 +2,6 @@
 use Rattle.std.specs.Prelude.{◌≡◌, ℕ, ◌+◌, ◌-◌, ◌<◌, ◌≤◌, ◌^◌, List, [], length, map, count_by, if◌then◌else◌}
 use Rattle.intern_log.specs.declared.event.Handle.{Handle}
 use Rattle.intern_log.specs.declared.event.What.{What}
-use Rattle.intern_log.specs.declared.event.TheConstants.{PERMANENT}
 use Rattle.intern_log.specs.TextMap.{TextMap}
 use Rattle.intern_log.specs.Log.{next, Allows}
 use Rattle.intern_log.specs.Counts.{is_create, is_take, is_drop}
@@ -21,7 +20,7 @@ held_handles pairs = map (λ (p : Held). p.1) pairs
 
 -- how many handles a window may hold so that no count of a symbol becomes permanent
 abbrev pub IsSymbolWindow : ℕ → Type 0
-IsSymbolWindow hold = (0 < hold) × (hold + 1 < PERMANENT)
+IsSymbolWindow hold = (0 < hold) × (hold + 1 < 65535)
 
 -- one more name may be counted
 abbrev pub CountsFit : SymbolCounts → Type 0

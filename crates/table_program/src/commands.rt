@@ -2,7 +2,6 @@
 ghost use Rattle.std.specs.Prelude.{◌≡◌, ◌≢◌, ℕ, ◌<◌, ◌≤◌, ◌↔◌, ◌⊎◌, List, [], ◌∷◌, length, Option, Some, None, IsSome, IfSome};
 ghost use Rattle.std.specs.Option.{option_copied};
 ghost use Rattle.table_program.specs.Limits.{limit_note};
-ghost use Rattle.table_program.specs.declared.limits.TheConstants.{MOST_BYTES};
 ghost use Rattle.io_edge.specs.Faults.{Rose};
 ghost use Rattle.table_program.specs.Words.{plain_name};
 ghost use Rattle.table_program.specs.PlainRun.{told_file, NamedRose, IsOneOf, IsPlainNote, status_of, WritesReport, WritesPartOfReport};
@@ -29,7 +28,7 @@ fn plain_name(words: &[String]) -> Option<&str>
 
 /// Writes the report of a file's bytes, where they are within the limits.
 fn write_report<K: Sink>(alloc: Global, bytes: &[u8], out: &mut K) -> Outcome
-    requires few { length bytes.now ≤ MOST_BYTES }
+    requires few { length bytes.now ≤ 67108864 }
     ensures report { result.status ≡ 0 → WritesReport bytes.now (K.written out.old) (K.written out.new) }
     ensures part_of_report { result.status ≡ 3 → WritesPartOfReport bytes.now (K.written out.old) (K.written out.new) }
     ensures write_fault { result.status ≡ 3 → Rose (K.faults out.old) (K.faults out.new) }
@@ -103,6 +102,7 @@ pub fn run_plain<F: Files, K: Sink>(
     ensures statuses { IsOneOf (0 ∷ 1 ∷ 2 ∷ 3 ∷ 4 ∷ 6 ∷ []) result.status }
     ensures note { IsPlainNote result.status result.note }
 
+    ensures files_untouched { result.status ≡ 1 → files.new ≡ files.old }
     ensures keeps { (name : List ℕ) → F.bytes_of files.new name ≡ F.bytes_of files.old name }
     ensures files_never_fall { (name : List ℕ) → F.faults files.old name ≤ F.faults files.new name }
     ensures out_never_falls { K.faults out.old ≤ K.faults out.new }
@@ -157,6 +157,7 @@ pub fn run<R: Threads + Wait + Sync, F: Files, K: Sink, P: Pace>(
     ensures statuses { IsOneOf (0 ∷ 1 ∷ 2 ∷ 3 ∷ 4 ∷ 6 ∷ []) result.status }
     ensures note { IsPlainNote result.status result.note }
 
+    ensures files_untouched { result.status ≡ 1 → files.new ≡ files.old }
     ensures keeps { (name : List ℕ) → F.bytes_of files.new name ≡ F.bytes_of files.old name }
     ensures files_never_fall { (name : List ℕ) → F.faults files.old name ≤ F.faults files.new name }
     ensures out_never_falls { K.faults out.old ≤ K.faults out.new }

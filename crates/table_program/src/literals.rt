@@ -8,7 +8,7 @@ ghost use Rattle.table_program.specs.MadeEntries.{texts_of, AreWithin, IsLiteral
 ghost use Rattle.table_program.specs.StringRun.{IsStringsOf};
 ghost use Rattle.table_program.specs.declared.literals.MadeEntry.{MadeEntry};
 
-use intern_log::{Handle, Kind, MAX_TEXT};
+use intern_log::{Handle, Kind};
 use name_scan::{Token, TokenKind};
 use plain_interner::{Plain, PlainInterned};
 use std::alloc::{AllocError, Global};
@@ -65,7 +65,7 @@ fn intern_literal(
     literal: Token,
 ) -> Result<(), AllocError>
     requires within { IsWithin bytes.now literal }
-    requires short { length (text_of bytes.now literal) ≤ MAX_TEXT }
+    requires short { length (text_of bytes.now literal) ≤ 65535 }
     requires room { plain.old.created < 2 ^ 32 - 1 }
     requires weak { plain.old.kind ≡ Kind.Weak }
     ensures weak { OnOk result (plain.new.kind ≡ Kind.Weak) }
@@ -92,7 +92,7 @@ fn intern_each(
 ) -> Result<Vec<MadeEntry>, AllocError>
     requires new { plain.old ≡ record { kind = Kind.Weak; texts = no_texts; created = 0 } }
     requires within { All (IsWithin bytes.now) literals.now }
-    requires short { All (λ t. length (text_of bytes.now t) ≤ MAX_TEXT) literals.now }
+    requires short { All (λ t. length (text_of bytes.now t) ≤ 65535) literals.now }
     requires few { length literals.now < 2 ^ 32 - 1 }
     ensures weak { OnOk result (plain.new.kind ≡ Kind.Weak) }
     ensures within { IfOk result (λ made. AreWithin bytes.now made.items) }
@@ -159,7 +159,7 @@ fn intern_and_list(
     hold: usize,
 ) -> Result<Strings, AllocError>
     requires within { All (IsWithin bytes.now) literals.now }
-    requires short { All (λ t. length (text_of bytes.now t) ≤ MAX_TEXT) literals.now }
+    requires short { All (λ t. length (text_of bytes.now t) ≤ 65535) literals.now }
     requires few { length literals.now < 2 ^ 32 - 1 }
     ensures strings { IfOk result (λ strings.
         IsStringsOf hold (texts_of bytes.now literals.now) strings.plain.texts strings.counts) }
@@ -197,7 +197,7 @@ pub(crate) fn intern_literals(
     hold: usize,
 ) -> Result<Strings, AllocError>
     requires within { All (IsWithin bytes.now) tokens.now }
-    requires short { All (λ text. length text ≤ MAX_TEXT) (literals_among bytes.now tokens.now) }
+    requires short { All (λ text. length text ≤ 65535) (literals_among bytes.now tokens.now) }
     requires few { length (literals_among bytes.now tokens.now) < 2 ^ 32 - 1 }
     ensures strings { IfOk result (λ strings.
         IsStringsOf hold (literals_among bytes.now tokens.now) strings.plain.texts strings.counts) }

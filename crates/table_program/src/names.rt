@@ -1,6 +1,5 @@
 //! The names of a file: interned in order, the last few of them held.
 ghost use Rattle.std.specs.Prelude.{◌≡◌, ℕ, ◌+◌, ◌-◌, ◌<◌, ◌≤◌, ◌^◌, List, [], ◌∷◌, ◌++◌, length, IfOk, OnOk, All};
-ghost use Rattle.intern_log.specs.declared.text.TheConstants.{MAX_TEXT};
 ghost use Rattle.name_scan.specs.declared.Token.{Token};
 ghost use Rattle.name_scan.specs.FileTexts.{names_among};
 ghost use Rattle.name_scan.specs.Places.{IsWithin};
@@ -22,7 +21,7 @@ fn intern_name(
     name: &[u8],
 ) -> Result<Handle, AllocError>
     requires counted { plain.old.kind ≡ Kind.Counted }
-    requires short { length name.now ≤ MAX_TEXT }
+    requires short { length name.now ≤ 65535 }
     requires room { plain.old.created < 2 ^ 32 - 1 }
     requires fits { CountsFit counts.old }
     ensures interned { IfOk result (InternsName plain.old counts.old name.now plain.new counts.new) }
@@ -72,7 +71,7 @@ fn hold_name(
     name: &[u8],
 ) -> Result<(), AllocError>
     requires counted { plain.old.kind ≡ Kind.Counted }
-    requires short { length name.now ≤ MAX_TEXT }
+    requires short { length name.now ≤ 65535 }
     requires room { plain.old.created < 2 ^ 32 - 1 }
     requires fits { CountsFit counts.old }
     requires window { IsSymbolWindow window.old.capacity }

@@ -5,7 +5,6 @@ ghost use Rattle.table_report.specs.FileReport as file_report_spec;
 ghost use Rattle.name_scan.specs.Tokens as tokens_of;
 ghost use Rattle.table_program.specs.Limits.{limit_note, IsShort};
 ghost use Rattle.table_program.specs.PlainRun.{IsOneOf, IsPlainNote};
-ghost use Rattle.table_program.specs.declared.limits.TheConstants.{MOST_BYTES};
 
 use crate::limits::limit_of;
 use crate::literals::intern_literals;
@@ -32,7 +31,7 @@ const STRING_LOAD: u16 = 2;
 
 /// What the interner's live texts show at the level where a table of them settles.
 fn settled(load: u16, plain: &Plain, references: u64) -> Statistics2
-    ensures settled { result ≡ file_report_spec.settled load MIN_LEVEL MAX_LEVEL (live_texts plain.now.texts) references }
+    ensures settled { result ≡ file_report_spec.settled load 3 16 (live_texts plain.now.texts) references }
 {
     let live = plain.live();
     let level = settle_level(load, live, MIN_LEVEL, MAX_LEVEL);
@@ -46,7 +45,7 @@ fn settled(load: u16, plain: &Plain, references: u64) -> Statistics2
 
 /// The report of a file's bytes, or the outcome where they pass a limit or memory is wanting.
 pub(crate) fn file_report(alloc: Global, bytes: &[u8]) -> Result<Vec<u8>, Outcome>
-    requires few { length bytes.now ≤ MOST_BYTES }
+    requires few { length bytes.now ≤ 67108864 }
     ensures report { IfOk result (λ text. file_report_spec.IsPlainReport bytes.now text.items) }
     ensures within { OnOk result (limit_note bytes.now ≡ None) }
     ensures statuses { IfErr result (λ outcome. IsOneOf (4 ∷ 6 ∷ []) outcome.status) }
@@ -62,7 +61,7 @@ pub(crate) fn file_report(alloc: Global, bytes: &[u8]) -> Result<Vec<u8>, Outcom
 
 /// The report of a file's tokens, which are within the limits.
 fn tokens_report(alloc: Global, bytes: &[u8], tokens: &[Token]) -> Result<Vec<u8>, AllocError>
-    requires few { length bytes.now ≤ MOST_BYTES }
+    requires few { length bytes.now ≤ 67108864 }
     requires tokens { tokens.now ≡ tokens_of.tokens bytes.now }
     requires short { All (IsShort bytes.now) tokens.now }
     ensures report { IfOk result (λ text. file_report_spec.IsPlainReport bytes.now text.items) }

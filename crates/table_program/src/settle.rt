@@ -2,14 +2,11 @@
 ghost use Rattle.std.specs.Prelude.{◌≡◌, ◌≤◌, ◌<◌, ◌^◌};
 ghost use Rattle.intern_log.specs.Buckets as buckets;
 
-/// The greatest level of a row of buckets.
-pub const MAX_LEVEL: u8 = 20;
-
 /// The least level from `min_level` on whose row of 2^level buckets holds `live` texts at `load` a
 /// bucket, or `max_level` where none below it does.
 pub fn settle_level(load: u16, live: u32, min_level: u8, max_level: u8) -> u8
     requires ordered { min_level ≤ max_level }
-    requires bounded { max_level ≤ MAX_LEVEL }
+    requires bounded { max_level ≤ 20 }
     ensures level { result ≡ buckets.settle_level load min_level max_level live }
     ensures within { result ≤ max_level }
 {

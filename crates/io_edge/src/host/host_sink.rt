@@ -1,6 +1,10 @@
-ghost use Rattle.std.specs.Prelude.{◌≡◌};
+ghost use Rattle.std.specs.Prelude.{◌≡◌, ◌<◌, ◌≤◌, length, take};
+ghost use Rattle.std.specs.Io.KnownBytes.{Appends, Keeps};
+ghost use Rattle.io_edge.specs.Faults.{raised};
+ghost use Rattle.io_edge.specs.Wrote.{IfWrote, OnWriteFailed};
 
 use crate::sink::{Sink, Wrote};
+use std::io::{self, Write};
 use std::marker::Model;
 
 /// The standard output of the system. Nothing is buffered: a write that fails is reported at once.
@@ -38,12 +42,29 @@ impl<R: Print + Drop> Sink for HostSink<R> {
     ghost faults = { λ faults. faults };
 
     fn write_some(&mut self, piece: &[u8]) -> Wrote {
-        match self.rt.write_some(piece) {
-            Ok(count) if 0 < count => Wrote::Bytes(count),
-            _ => {
-                self.faults = self.faults.saturating_add(1);
-                Wrote::Failed
-            }
+        write_counted(&mut io::writer(&self.rt), &mut self.faults, piece)
+    }
+}
+
+/// Writes some bytes from the front of the piece, and counts a fault where the writer took none.
+///
+/// The number in the answer is how many bytes the writer took, where it tells them.
+fn write_counted<W: Write>(to: &mut W, faults: &mut u64, piece: &[u8]) -> Wrote
+    ensures count { IfWrote result (λ n. (1 ≤ n) × (n ≤ length piece.now)) }
+    ensures appends { IfWrote result (λ n. Appends (W.contents to.old) (W.contents to.new) (take n piece.now)) }
+    ensures no_fault { IfWrote result (λ _. faults.new ≡ faults.old) }
+
+    ensures fault { OnWriteFailed result (faults.new ≡ raised faults.old) }
+    ensures unchanged { OnWriteFailed result (Keeps (W.contents to.old) (W.contents to.new)) }
+{
+    match to.write(piece) {
+        Ok(count) if 0 < count => Wrote::Bytes(count),
+        _ => {
+            *faults = faults.saturating_add(1);
+            Wrote::Failed
         }
     }
 }
+
+#[cfg(test)]
+mod tests;
