@@ -25,3 +25,6 @@ pub mod WorkedLogLaws
 pub mod Changed
 pub mod CauseLaws
 pub mod WindowHolds
+pub mod EntryCountLaws
+pub mod Membership
+pub mod ReachedLaws
