@@ -1,5 +1,6 @@
 pub mod TextMap
 pub mod Log
+pub mod EntryCounts
 pub mod Own
 pub mod Counts
 pub mod Place

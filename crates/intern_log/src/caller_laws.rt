@@ -1,7 +1,7 @@
 //! Laws of callers: what they hold together, and what a handle that one of them holds is good for.
 //! Each function does nothing: its contract is the law.
 ghost use Rattle.std.specs.Prelude.{◌≡◌, ℕ, ◌↔◌, true, List, [], ◌∷◌, ◌++◌, count_by};
-ghost use Rattle.std.specs.List.{sum_by};
+ghost use Rattle.std.specs.List.{sum_by, Contains};
 ghost use Rattle.intern_log.specs.declared.event.Event.{Event};
 ghost use Rattle.intern_log.specs.declared.event.Handle.{Handle};
 ghost use Rattle.intern_log.specs.declared.event.Kind.TheVariants.{Counted};
@@ -14,6 +14,17 @@ ghost use Rattle.intern_log.specs.Lawful.{IsLawful};
 ghost use Rattle.intern_log.specs.Sections.{with_event};
 ghost use Rattle.intern_log.specs.Callers.{AreCallers, DropTheirOwn, IsHeldBySome, IsHeldThroughout};
 ghost use Rattle.intern_log.specs.Place.{IsLiveThroughout};
+ghost use Rattle.intern_log.specs.CauseEvents.{IsByOther};
+
+/// A number is among those of a caller where they contain it.
+pub fn numbers_among_numbers()
+    ensures law { (numbers : List ℕ) (seat : ℕ) → (is_among numbers seat ≡ true) ↔ Contains numbers seat }
+{}
+
+/// An event is by another where its number is none of these.
+pub fn events_by_others()
+    ensures law { (numbers : List ℕ) (e : Event) → IsByOther numbers e ↔ ¬ (Contains numbers e.seat) }
+{}
 
 /// Callers share a log by one more event where they share it before, and that event is by one of them or unseen.
 pub fn callers_by_one_more_event()
@@ -60,6 +71,8 @@ mod tests {
 
     #[test]
     fn laws_can_be_called() {
+        numbers_among_numbers();
+        events_by_others();
         callers_by_one_more_event();
         gains_of_the_callers();
         losses_of_the_callers();

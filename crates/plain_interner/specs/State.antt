@@ -1,15 +1,10 @@
 -- What callers see of a one-thread interner, and what its answers tell.
-use Rattle.std.specs.Prelude.{◌≡◌, ℕ, ◌+◌, ◌-◌, Bool, true, false, if◌then◌else◌, ◌==◌, nat_lt, List, sum_by, refl}
+use Rattle.std.specs.Prelude.{◌≡◌, ℕ, ◌+◌, Bool, true, false, List, refl}
 use Rattle.std.specs.Coded.{Coded, code_by, coded×, coded_ℕ, coded_bool}
-use Rattle.std.specs.FinMap as finite
-use Rattle.intern_log.specs.declared.event.Entry.{Entry}
 use Rattle.intern_log.specs.declared.event.Kind.{Kind}
 use Rattle.intern_log.specs.declared.event.Kind.TheVariants.{Counted, Weak}
-use Rattle.intern_log.specs.declared.event.Released.{Released}
-use Rattle.intern_log.specs.declared.event.Released.TheVariants.{Dropped, Permanent}
 use Rattle.intern_log.specs.declared.event.What.{What}
 use Rattle.intern_log.specs.declared.event.What.TheVariants as what
-use Rattle.intern_log.specs.declared.event.TheConstants.{PERMANENT}
 use Rattle.intern_log.specs.TextMap.{TextMap, text_map_code}
 use Rattle.intern_log.specs.Log.{next, Allows}
 use Rattle.intern_log.specs.PlainLogs.{slots_taken}
@@ -65,15 +60,3 @@ abbrev pub IsOfKind : Kind → PlainInterned → Type 0
 IsOfKind kind (Created h) = Unit {0}
 IsOfKind kind (Taken h) = kind ≡ Counted
 IsOfKind kind (Found h) = kind ≡ Weak
-
--- what letting go of an entry with this count comes to
-abbrev pub released_of : ℕ → Released
-released_of count = if count == PERMANENT then Permanent else Dropped (count - 1)
-
--- how many holds an entry counts: none, where it is permanent
-abbrev pub references_to : Entry → ℕ
-references_to e = if nat_lt e.count PERMANENT then e.count else 0
-
--- how many holds the entries count together
-abbrev pub references_of : TextMap → ℕ
-references_of m = sum_by references_to (finite.values m)

@@ -5,7 +5,7 @@ ghost use Rattle.intern_log.specs.TextMap.{live_texts};
 ghost use Rattle.intern_log.specs.Buckets.{bucket_of, longest_bucket};
 ghost use Rattle.intern_log.specs.Buckets as buckets;
 ghost use Rattle.intern_log.specs.Kept.{text_map};
-ghost use Rattle.plain_interner.specs.State as state;
+ghost use Rattle.intern_log.specs.EntryCounts as counts;
 
 use intern_log::{Entry, PERMANENT};
 use std::collections::BTreeMap;
@@ -16,7 +16,7 @@ type Entries = BTreeMap<Vec<u8>, Entry>;
 
 /// How many holds an entry counts: none, where it is permanent.
 fn references_to(entry: &Entry) -> u64
-    ensures value { result ≡ state.references_to entry.now }
+    ensures value { result ≡ counts.references_to entry.now }
     ensures small { result < 2 ^ 16 }
 {
     if entry.count < PERMANENT {
@@ -29,7 +29,7 @@ fn references_to(entry: &Entry) -> u64
 /// How many holds the entries count together.
 pub(crate) fn references(entries: &Entries) -> u64
     requires { length (live_texts (text_map entries.now.entries)) < 2 ^ 32 }
-    ensures { result ≡ state.references_of (text_map entries.now.entries) }
+    ensures { result ≡ counts.references_of (text_map entries.now.entries) }
 {
     entries.values().map(|entry| references_to(entry)).sum()
 }

@@ -4,7 +4,8 @@ ghost use Rattle.std.specs.Bool.{OnTrue, OnFalse};
 ghost use Rattle.intern_log.specs.declared.event.Entry.{Entry};
 ghost use Rattle.intern_log.specs.TextMap.{no_texts, entry_of, live_texts, IsLive};
 ghost use Rattle.intern_log.specs.Buckets.{longest_bucket};
-ghost use Rattle.plain_interner.specs.State.{Follows, event_of, HasNewSlot, IsOfKind, released_of, references_of};
+ghost use Rattle.intern_log.specs.EntryCounts.{released_of, references_of};
+ghost use Rattle.plain_interner.specs.State.{Follows, event_of, HasNewSlot, IsOfKind};
 
 use crate::numbers::{longest, references};
 use intern_log::{Handle, Kind, MAX_TEXT, PERMANENT, Released, Replay, What};

@@ -2,7 +2,7 @@
 use Rattle.std.proofs.Common.{◌≡◌, ℕ, List, [], ◌∷◌, All, length, sym, ap, ◌∙◌, arith, append-nil, zero-add}
 use Rattle.std.specs.Prelude.{Result, Ok, Err, IfOk}
 use Rattle.intern_log.specs.Finals.{finals, distinct_texts}
-use Rattle.plain_interner.specs.State.{references_of}
+use Rattle.intern_log.specs.EntryCounts.{references_of}
 use Rattle.intern_log.specs.TextMap.{TextMap, live_texts}
 use Rattle.table_report.specs.declared.Report.{Report}
 use Rattle.table_report.specs.declared.Statistics2.{Statistics2}

@@ -15,7 +15,7 @@ use Rattle.intern_log.specs.declared.event.Entry.{Entry}
 use Rattle.intern_log.specs.declared.event.TheConstants.{PERMANENT}
 use Rattle.intern_log.specs.TextMap.{TextMap, entry_of}
 use Rattle.intern_log.specs.Finals.{is_among_texts}
-use Rattle.plain_interner.specs.State.{references_to, references_of}
+use Rattle.intern_log.specs.EntryCounts.{references_to, references_of}
 use Rattle.table_program.specs.Holding.{Held, times_held, Counts, Holds}
 use Rattle.table_program.specs.SymbolRun.{held_texts}
 use Rattle.table_program.proofs.LiveTexts.{held_are_live, list_any-agree}

@@ -9,7 +9,8 @@ use Rattle.intern_log.specs.TextMap.{TextMap, live_texts}
 use Rattle.intern_log.specs.Finals.{finals, distinct_texts}
 use Rattle.intern_log.specs.Window.{IsCountedIntern}
 use Rattle.intern_log.specs.PlainLogs.{IsNumbered, IsPlainSymbolLog}
-use Rattle.plain_interner.specs.State.{State, Follows, references_of}
+use Rattle.intern_log.specs.EntryCounts.{references_of}
+use Rattle.plain_interner.specs.State.{State, Follows}
 use Rattle.table_report.specs.FileReport.{symbol_counts}
 use Rattle.table_report.specs.declared.SymbolCounts.{SymbolCounts}
 use Rattle.name_scan.specs.declared.Token.{Token}

@@ -4,7 +4,7 @@ use Rattle.std.proofs.lemmas.Iterator.Adapters.{fits_from_length, at_most_from_y
 use Rattle.std.proofs.lemmas.Iterator.Consumers.{YieldsList-at, YieldsList-from_rest, sum_by_from_yields_List}
 use Rattle.std.specs.List.{sum_by}
 use Rattle.std.specs.BTreeMap.{values}
-use Rattle.plain_interner.specs.State.{references_to}
+use Rattle.intern_log.specs.EntryCounts.{references_to}
 use Rattle.intern_log.proofs.Maps.{values-text_map, length-live_texts}
 use Rattle.plain_interner.proofs.numbers.references.Goals as goal
 
