@@ -4,9 +4,12 @@ Each case has a folder of its own below a temporary one, and is run twice there:
 as the case says. Only what a process shows is looked at: standard output, standard error and the exit
 status."""
 
+import contextlib
 import os
 import re
+import resource
 import shutil
+import signal
 import subprocess
 import sys
 import tempfile
@@ -33,6 +36,8 @@ class Case:
         self.locked = []
         self.words = []
         self.stdout = None
+        self.limit = None
+        self.memory = None
         self.status = None
         self.out = []
         self.err = []
@@ -94,6 +99,10 @@ def read_line(cases, key, rest):
         case.locked.extend(tokens(rest))
     elif key == "stdout":
         case.stdout = rest
+    elif key == "limit":
+        case.limit = int(rest)
+    elif key == "memory":
+        case.memory = int(rest)
     elif key == "status":
         case.status = int(rest)
     elif key == "out":
@@ -127,14 +136,28 @@ def become_nobody():
     os.setuid(NOBODY)
 
 
+def confine(case, as_nobody):
+    """Sets the case's bounds in the process that is to become the program."""
+    if as_nobody:
+        become_nobody()
+    if case.limit is not None:
+        # A write beyond the limit is then an error, and does not end the process.
+        signal.signal(signal.SIGXFSZ, signal.SIG_IGN)
+        resource.setrlimit(resource.RLIMIT_FSIZE, (case.limit, case.limit))
+    if case.memory is not None:
+        resource.setrlimit(resource.RLIMIT_AS, (case.memory, case.memory))
+
+
 def run(case, folder, copy):
     """One run of a case: its exit status, standard output and standard error."""
     words = [word.replace(b"{here}", os.fsencode(folder)) for word in case.words]
     # Root reads a locked file too, so there the program is run as nobody, who may not be able to
     # reach this repository: from the copy that lies beside the cases.
     as_nobody = bool(case.locked) and os.geteuid() == 0
-    out = open(case.stdout, "wb") if case.stdout else subprocess.PIPE
-    try:
+    path = case.stdout
+    if case.limit is not None:
+        path = os.path.join(folder, "standard output")
+    with open(path, "wb") if path else contextlib.nullcontext(subprocess.PIPE) as out:
         done = subprocess.run(
             [copy if as_nobody else SCRIPT] + words,
             cwd=folder,
@@ -142,15 +165,17 @@ def run(case, folder, copy):
             stdout=out,
             stderr=subprocess.PIPE,
             timeout=SECONDS,
-            preexec_fn=become_nobody if as_nobody else None,
+            preexec_fn=lambda: confine(case, as_nobody),
         )
-    finally:
-        if case.stdout:
-            out.close()
-    return done.returncode, done.stdout or b"", done.stderr
+    written = done.stdout or b""
+    if case.limit is not None:
+        with open(path, "rb") as file:
+            written = file.read()
+    return done.returncode, written, done.stderr
 
 
 def lines_of(lines):
+    """The bytes of these lines."""
     return "".join(line + "\n" for line in lines).encode()
 
 
@@ -162,7 +187,7 @@ def difference(case, folder, copy):
         return f"not run: {error}"
     for what, got, want in [
         ("exit status", status, case.status),
-        ("standard output", out, lines_of(case.out)),
+        ("standard output", out, lines_of(case.out)[: case.limit]),
         ("standard error", err, lines_of(case.err)),
     ]:
         if got != want:

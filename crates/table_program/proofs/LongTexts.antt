@@ -1,36 +1,17 @@
--- The search for a text that is too long.
-use Rattle.std.proofs.Common.{◌≡◌, ℕ, ◌+◌, ◌<◌, ◌≤◌, Bool, true, false, cond, nat_lt, List, [], ◌∷◌, All, filter, count_by, drop, get_or, length, Option, Some, None, refl, ap, ◌∙◌, add-one, drop-cons}
+-- What holds where no text is too long.
+use Rattle.std.proofs.Common.{◌≡◌, ℕ, ◌≤◌, Bool, true, false, cond, nat_lt, List, [], ◌∷◌, All, filter, length, Option, Some, None, refl}
 use Rattle.std.specs.Option.{option_map, option_or}
-use Rattle.std.proofs.lemmas.Bool.{le-ltb, lt-ltb, ltb-false}
-use Rattle.std.proofs.lemmas.List.{length-map}
+use Rattle.std.proofs.lemmas.Bool.{ltb-false}
 use Rattle.std.specs.List.{AllByRecursion}
 use Rattle.std.proofs.lemmas.List.Elements.{All-from_recursion, All-filter, All-map}
-use Rattle.std.proofs.lemmas.List.Sums.{length-filter}
 use Rattle.intern_log.specs.declared.text.TheConstants.{MAX_TEXT}
 use Rattle.name_scan.specs.declared.Token.{Token}
-use Rattle.name_scan.specs.FileTexts.{is_name, is_literal, text_of, texts_among, names_among, literals_among}
+use Rattle.name_scan.specs.FileTexts.{is_literal, text_of, texts_among, names_among, literals_among}
 use Rattle.table_program.specs.declared.outcome.Limit.TheVariants.{Text, Names, Literals}
 use Rattle.table_program.specs.declared.outcome.Note.{Note}
 use Rattle.table_program.specs.declared.outcome.Note.TheVariants as note
 use Rattle.table_program.proofs.Options.{no_item}
 use Rattle.table_program.specs.Limits.{most_names, most_literals, long_length, above, tokens_note, IsShort}
-
--- the rest of the tokens from a place on begins with the token there
-rest_from : (bytes : List ℕ) (found : List Token) (i : ℕ) (d : Token) → i < length found →
-    texts_among bytes (drop i found) ≡ text_of bytes (get_or found i d) ∷ texts_among bytes (drop (i + 1) found)
-rest_from bytes found i d within = let split : drop i found ≡ get_or found i d ∷ drop (i + 1) found = rw add-one (drop-cons found i d within) in ap (texts_among bytes) split
-
--- a short text is passed
-pub passes_short : (bytes : List ℕ) (found : List Token) (i : ℕ) (d : Token) → i < length found → length (text_of bytes (get_or found i d)) ≤ MAX_TEXT →
-    long_length (texts_among bytes (drop i found)) ≡ long_length (texts_among bytes (drop (i + 1) found))
-passes_short bytes found i d within short =
-    ap long_length (rest_from bytes found i d within) ∙ ap (λ b. cond b (Some (length (text_of bytes (get_or found i d)))) (long_length (texts_among bytes (drop (i + 1) found)))) (le-ltb MAX_TEXT (length (text_of bytes (get_or found i d))) short)
-
--- a long one is found
-pub finds_long : (bytes : List ℕ) (found : List Token) (i : ℕ) (d : Token) → i < length found → MAX_TEXT < length (text_of bytes (get_or found i d)) →
-    long_length (texts_among bytes (drop i found)) ≡ Some (length (text_of bytes (get_or found i d)))
-finds_long bytes found i d within long =
-    ap long_length (rest_from bytes found i d within) ∙ ap (λ b. cond b (Some (length (text_of bytes (get_or found i d)))) (long_length (texts_among bytes (drop (i + 1) found)))) (lt-ltb MAX_TEXT (length (text_of bytes (get_or found i d))) long)
 
 -- where no text is too long each token is short
 one_short : (bytes : List ℕ) (t : Token) (rest : Option ℕ) (Rest : Type 0) (long : Bool) → nat_lt MAX_TEXT (length (text_of bytes t)) ≡ long → (rest ≡ None → Rest) →
@@ -54,13 +35,6 @@ within_limits bytes found none = first_none (long_length (texts_among bytes foun
         (above Literals most_literals (length (literals_among bytes found))) ≡ None → o ≡ None
     first_none None is = refl
     first_none (Some n) is = absurd (no_item _ is)
-
--- how many names and literals there are
-pub name_count_is : (bytes : List ℕ) (found : List Token) → length (names_among bytes found) ≡ count_by (λ (t : Token). is_name t.kind) found
-name_count_is bytes found = length-map (filter (λ (t : Token). is_name t.kind) found) (text_of bytes) ∙ length-filter (λ (t : Token). is_name t.kind) found
-
-pub literal_count_is : (bytes : List ℕ) (found : List Token) → length (literals_among bytes found) ≡ count_by (λ (t : Token). is_literal t.kind) found
-literal_count_is bytes found = length-map (filter (λ (t : Token). is_literal t.kind) found) (text_of bytes) ∙ length-filter (λ (t : Token). is_literal t.kind) found
 
 -- the first of three notes
 pub first_of_three : (both all text names literals text_is names_is literals_is : Option Note) →

@@ -1,8 +1,8 @@
 -- The limits of the input of `plain`.
-use Rattle.std.specs.Prelude.{ℕ, ◌+◌, ◌≤◌, nat_lt, List, length, map, find, Option, Some, None, if◌then◌else◌}
+use Rattle.std.specs.Prelude.{ℕ, ◌+◌, ◌≤◌, nat_lt, List, length, Option, Some, None, if◌then◌else◌}
 use Rattle.std.specs.Option.{option_map, option_or}
 use Rattle.name_scan.specs.declared.Token.{Token}
-use Rattle.name_scan.specs.FileTexts.{text_of, texts_among, names_among, literals_among}
+use Rattle.name_scan.specs.FileTexts.{text_of, texts_among, first_longer, names_among, literals_among}
 use Rattle.name_scan.specs.Tokens.{tokens}
 use Rattle.table_program.specs.declared.outcome.Limit.{Limit}
 use Rattle.table_program.specs.declared.outcome.Limit.TheVariants.{Bytes, Text, Names, Literals}
@@ -24,7 +24,7 @@ most_literals = 1048576
 
 -- the length of the first text that is too long
 abbrev pub long_length : List (List ℕ) → Option ℕ
-long_length texts = find (λ n. nat_lt most_text n) (map length texts)
+long_length texts = first_longer most_text texts
 
 -- the note of a number that passes its limit
 abbrev pub above : Limit → ℕ → ℕ → Option Note

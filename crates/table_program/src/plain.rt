@@ -52,10 +52,10 @@ pub(crate) fn file_report(alloc: Global, bytes: &[u8]) -> Result<Vec<u8>, Outcom
     ensures over_limit { IfErr result (λ outcome. outcome.status ≡ 4 → limit_note bytes.now ≡ Some outcome.note) }
     ensures note { IfErr result (λ outcome. IsPlainNote outcome.status outcome.note) }
 {
-    let tokens = scan(alloc, bytes)?;
-    if let Some(note) = limit_of(bytes, tokens.as_slice()) {
+    if let Some(note) = limit_of(bytes) {
         return Err(Outcome { status: 4, note });
     }
+    let tokens = scan(alloc, bytes)?;
     Ok(tokens_report(alloc, bytes, tokens.as_slice())?)
 }
 
