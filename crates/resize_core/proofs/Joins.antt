@@ -39,7 +39,7 @@ joined links heads even odd low high apart = ⊎_elim
     let ends : slice_get links last ≡ Some None = slice_get-get_or links last None within.0 ∙ ap Some within.1 in
     subst (λ place. Joined links heads place even odd) (sym some.3) (
       path_append links last heads.odd ends heads.even even odd low within.2 high (apart last within.2),
-      path_elsewhere links last heads.odd heads.odd odd high (apart last within.2),
+      path_elsewhere links last heads.odd None ends heads.odd odd high (apart last within.2),
     ))
     (end_cases EvenHead even)
 
