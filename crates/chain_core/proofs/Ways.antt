@@ -8,7 +8,7 @@ use Rattle.chain_core.proofs.Members.{On, Once, without-absent, without-here, wi
 same_node : (a b : ℕ) → Some a ≡ Some b → a ≡ b
 same_node a b same = cc
 
--- two ways, one behind the other
+-- two ways, one after the other
 pub leads_on : (next : ℕ → Option ℕ) (from middle to : Option ℕ) (xs ys : List ℕ) → Leads next from xs middle → Leads next middle ys to → Leads next from (xs ++ ys) to
 leads_on next from middle to [] ys first second = subst (λ a. Leads next a ys to) (sym first) second
 leads_on next from middle to (x ∷ xs) ys first second = (first.0, leads_on next (next x) middle to xs ys first.1 second)
@@ -107,18 +107,18 @@ way_without next new before node follows stored other from to (x ∷ xs) ends wa
     (way.0, subst (λ a. Leads new a (without node xs) to) (sym (other x there)) (way_without next new before node follows stored other (next x) to xs ends way.1 once.1 later)))
     (cases_eq x before)
 
--- a path that passes a node without a next one, when another path is put behind that node
-pub path_appended : (next new : ℕ → Option ℕ) (last : ℕ) (behind : Option ℕ) → next last ≡ None → new last ≡ behind → ((n : ℕ) → (n ≡ last → ⊥) → new n ≡ next n) →
-    (from : Option ℕ) (xs ys : List ℕ) → IsPath next from xs → On last xs → IsPath next behind ys → (On last ys → ⊥) → IsPath new from (xs ++ ys)
-path_appended next new last behind ends stored other from [] ys path on rest absent = absurd on
-path_appended next new last behind ends stored other from (x ∷ xs) ys path on rest absent = ⊎_elim
+-- a path that passes a node without a next one, when another path is put after that node
+pub path_appended : (next new : ℕ → Option ℕ) (last : ℕ) (after : Option ℕ) → next last ≡ None → new last ≡ after → ((n : ℕ) → (n ≡ last → ⊥) → new n ≡ next n) →
+    (from : Option ℕ) (xs ys : List ℕ) → IsPath next from xs → On last xs → IsPath next after ys → (On last ys → ⊥) → IsPath new from (xs ++ ys)
+path_appended next new last after ends stored other from [] ys path on rest absent = absurd on
+path_appended next new last after ends stored other from (x ∷ xs) ys path on rest absent = ⊎_elim
     (λ here.
     let none : xs ≡ [] = no_path next xs (subst (λ a. IsPath next a xs) (ap next here ∙ ends) path.1) in
-    let stays : IsPath new behind ys = leads_stays next new last other behind None ys absent rest in
+    let stays : IsPath new after ys = leads_stays next new last other after None ys absent rest in
     (path.0, subst (λ l. IsPath new (new x) (l ++ ys)) (sym none) (subst (λ a. IsPath new a ys) (sym (ap new here ∙ stored)) stays)))
     (λ there.
     let later : On last xs = ⊎_elim (λ here. absurd (there here)) (λ later. later) on in
-    (path.0, subst (λ a. IsPath new a (xs ++ ys)) (sym (other x there)) (path_appended next new last behind ends stored other (next x) xs ys path.1 later rest absent)))
+    (path.0, subst (λ a. IsPath new a (xs ++ ys)) (sym (other x there)) (path_appended next new last after ends stored other (next x) xs ys path.1 later rest absent)))
     (cases_eq x last)
 
 -- of two ways from one start, one goes on from where the other ends

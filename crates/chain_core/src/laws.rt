@@ -9,7 +9,7 @@ pub fn paths_are_one()
     ensures law { (next : ℕ → Option ℕ) (first : Option ℕ) (a b : List ℕ) → IsPath next first a → IsPath next first b → a ≡ b }
 {}
 
-/// No node stands on a path twice.
+/// No node is on a path twice.
 pub fn nodes_of_a_path_differ()
     ensures law { (next : ℕ → Option ℕ) (first : Option ℕ) (nodes : List ℕ) → IsPath next first nodes →
         AllPairs (λ earlier later. earlier ≢ later) nodes }
