@@ -1,9 +1,12 @@
 -- Which nodes stand on a list, and that none stands on it twice, by recursion on the list.
-use Rattle.std.proofs.Common.{◌≡◌, ◌≢◌, ◌<◌, ℕ, zero, suc, List, [], ◌∷◌, ◌++◌, ◌⊎◌, ⊎_elim, inl, inr, length, get_or, refl, sym, ap, subst, ◌∙◌, false, not, cond}
+use Rattle.std.proofs.Common.{◌≡◌, ◌≢◌, ◌<◌, ◌≤◌, ℕ, zero, suc, List, [], ◌∷◌, ◌++◌, ◌⊎◌, ⊎_elim, inl, inr, length, get_or, refl, sym, ap, subst, ◌∙◌, false, not, cond}
 use native.Mathlib.Omega.{arith}
-use Rattle.std.specs.List.{Contains, All, AllPairs}
+use Rattle.std.specs.List.{Contains, All, AllPairs, AllByRecursion, IsDistinct}
 use Rattle.std.specs.Prelude.{nat_eq}
-use Rattle.std.proofs.lemmas.Bool.{eq-eqb, ne_eqb}
+use Rattle.std.proofs.Math.Dec.{eqb}
+use Rattle.std.proofs.lemmas.Bool.{eq-eqb, ne_eqb, eqb-true, cases_eq}
+use Rattle.std.proofs.lemmas.Map.Views.{Contains-from_any}
+use Rattle.std.proofs.lemmas.Map.Steps.{length-le_from_distinct_below}
 use Rattle.chain_core.specs.Path.{without}
 
 -- the node stands on the list
@@ -85,3 +88,37 @@ once_parts (x ∷ xs) ys node once left right = ⊎_elim
 pub on_either : (xs ys : List ℕ) (node : ℕ) → On node (xs ++ ys) → On node xs ⊎ On node ys
 on_either [] ys node on = inr on
 on_either (x ∷ xs) ys node on = ⊎_elim (λ here. inl (inl here)) (λ later. ⊎_elim (λ left. inl (inr left)) (λ right. inr right) (on_either xs ys node later)) on
+
+-- what is on a list with one more node
+pub on_push : (nodes : List ℕ) (node other : ℕ) → On other (nodes ++ node ∷ []) → On other nodes ⊎ (other ≡ node)
+on_push [] node other on = ⊎_elim (λ same. inr (sym same)) (λ none. absurd none) on
+on_push (x ∷ nodes) node other on = ⊎_elim (λ here. inl (inl here)) (λ later. ⊎_elim (λ before. inl (inr before)) (λ same. inr same) (on_push nodes node other later)) on
+
+-- no node of a list with one more is there twice
+pub once_push : (nodes : List ℕ) (node : ℕ) → Once nodes → (On node nodes → ⊥) → Once (nodes ++ node ∷ [])
+once_push [] node once absent = ((λ on. on), tt)
+once_push (x ∷ nodes) node once absent =
+    ((λ on. ⊎_elim once.0 (λ same. absent (inl same)) (on_push nodes node x on)), once_push nodes node once.1 (λ on. absent (inr on)))
+
+-- a node is on a list or not
+pub on_or_not : (xs : List ℕ) (node : ℕ) → On node xs ⊎ (On node xs → ⊥)
+on_or_not [] node = inr (λ on. on)
+on_or_not (x ∷ xs) node = ⊎_elim
+    (λ here. inl (inl here))
+    (λ there. ⊎_elim (λ later. inl (inr later)) (λ absent. inr (λ on. ⊎_elim there absent on)) (on_or_not xs node))
+    (cases_eq x node)
+
+-- the same in the words of a list of keys
+distinct_from_once : (xs : List ℕ) → Once xs → IsDistinct eqb xs
+unfolding IsDistinct
+distinct_from_once [] once = tt
+distinct_from_once (x ∷ xs) once = (each_apart xs once.0, distinct_from_once xs once.1)
+  where
+    each_apart : (ys : List ℕ) → (On x ys → ⊥) → AllByRecursion (λ y. eqb x y ≡ false) ys
+    each_apart [] absent = tt
+    each_apart (y ∷ ys) absent = (ne_eqb x y (λ same. absent (inl (sym same))), each_apart ys (λ on. absent (inr on)))
+
+-- a list of nodes below a bound, none of them twice, is no longer than the bound
+pub once_within : (bound : ℕ) (xs : List ℕ) → Once xs → All (λ node. node < bound) xs → length xs ≤ bound
+once_within bound xs once inside = length-le_from_distinct_below xs bound (distinct_from_once xs once)
+    (λ node found. on_all (λ n. n < bound) xs node inside (On-from_Contains xs node (Contains-from_any eqb-true node xs found)))

@@ -52,7 +52,7 @@ unseen_falls seen node within new =
     omega (arith, sums, one)
 
 -- the way to the node at which a walk stands, and the path of a walk that is at its end
-pub way_of : (links : List (Option ℕ)) (first : Option ℕ) (seen : List Bool) (nodes : List ℕ) (at : Option ℕ) (node : ℕ) → Walk links first seen nodes at → at ≡ Some node → IsWay links first nodes node
+pub way_of : (links : List (Option ℕ)) (first : Option ℕ) (seen : List Bool) (nodes : List ℕ) (at : Option ℕ) (node : ℕ) → Walk links first seen nodes at → at ≡ Some node → IsWay (next_in links) (length links) first nodes node
 way_of links first seen nodes at node walk is = record { leads = subst (Leads (next_in links) first nodes) is walk.leads; inside = walk.inside; once = walk.once }
 
 pub path_of : (links : List (Option ℕ)) (first : Option ℕ) (seen : List Bool) (nodes : List ℕ) (at : Option ℕ) → Walk links first seen nodes at → at ≡ None → IsPathIn links first nodes
@@ -60,11 +60,11 @@ path_of links first seen nodes at walk is = record { path = subst (Leads (next_i
 
 -- a walk that stands at a node without a link, or at one that was seen
 pub walk_outside : (links : List (Option ℕ)) (first : Option ℕ) (seen : List Bool) (nodes : List ℕ) (at : Option ℕ) (node : ℕ) → Walk links first seen nodes at → at ≡ Some node →
-    length links ≤ node → IsFirstOutside links first node
+    length links ≤ node → IsFirstOutside (next_in links) (length links) first node
 walk_outside links first seen nodes at node walk is past = (nodes, way_of links first seen nodes at node walk is, past)
 
 pub walk_met : (links : List (Option ℕ)) (first : Option ℕ) (seen : List Bool) (nodes : List ℕ) (at : Option ℕ) (node : ℕ) → Walk links first seen nodes at → at ≡ Some node →
-    node < length links → get_or seen node false ≡ true → IsFirstMetAgain links first node
+    node < length links → get_or seen node false ≡ true → IsFirstMetAgain (next_in links) (length links) first node
 walk_met links first seen nodes at node walk is below marked = (nodes, way_of links first seen nodes at node walk is, (walk.marked node below).0 marked)
 
 -- what was read of the marks

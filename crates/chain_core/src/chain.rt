@@ -134,7 +134,7 @@ mod tests {
             nodes: &[],
             fault: Some(PathFault::Loop { node: 0 }),
         },
-        // the loop is met behind a node that is not in it
+        // the loop is met after a node that is not in it
         Case {
             next: &[Some(1), Some(2), Some(3), Some(1)],
             first: Some(0),

@@ -1,7 +1,7 @@
 //! Laws of paths. Each function does nothing: its contract is the law.
-ghost use Rattle.std.specs.Prelude.{◌≡◌, ◌≢◌, ◌++◌, ℕ, List, Option, Some, AllPairs, Contains};
-ghost use Rattle.chain_core.specs.Path.{Leads, IsPath, IsPathIn};
-ghost use Rattle.chain_core.specs.Faults.{IsFaultOf};
+ghost use Rattle.std.specs.Prelude.{◌≡◌, ◌≢◌, ◌++◌, ◌⊎◌, ℕ, List, Option, Some, AllPairs, Contains};
+ghost use Rattle.chain_core.specs.Path.{Leads, IsPath, IsPathWithin, IsPathIn};
+ghost use Rattle.chain_core.specs.Faults.{IsFaultWithin, IsFaultOf};
 ghost use Rattle.chain_core.specs.declared.chain.PathFault.{PathFault};
 
 /// A chain has one path at the most.
@@ -9,7 +9,7 @@ pub fn paths_are_one()
     ensures law { (next : ℕ → Option ℕ) (first : Option ℕ) (a b : List ℕ) → IsPath next first a → IsPath next first b → a ≡ b }
 {}
 
-/// No node stands on a path twice.
+/// No node is on a path twice.
 pub fn nodes_of_a_path_differ()
     ensures law { (next : ℕ → Option ℕ) (first : Option ℕ) (nodes : List ℕ) → IsPath next first nodes →
         AllPairs (λ earlier later. earlier ≢ later) nodes }
@@ -33,15 +33,25 @@ pub fn way_stays()
         (first to : Option ℕ) (met : List ℕ) → ¬ (Contains met changed) → Leads next first met to → Leads new first met to }
 {}
 
-/// A chain that has a path has no fault.
+/// A chain that has a path has no fault, whichever nodes have a link.
 pub fn path_has_no_fault()
-    ensures law { (links : List (Option ℕ)) (first : Option ℕ) (nodes : List ℕ) (fault : PathFault) →
-        IsPathIn links first nodes → ¬ (IsFaultOf links first fault) }
+    ensures law { (next : ℕ → Option ℕ) (bound : ℕ) (first : Option ℕ) (nodes : List ℕ) (fault : PathFault) →
+        IsPathWithin next bound first nodes → ¬ (IsFaultWithin next bound first fault) }
 {}
 
 /// A chain has one first fault at the most.
 pub fn first_fault_is_one()
-    ensures law { (links : List (Option ℕ)) (first : Option ℕ) (a b : PathFault) → IsFaultOf links first a → IsFaultOf links first b → a ≡ b }
+    ensures law { (next : ℕ → Option ℕ) (bound : ℕ) (first : Option ℕ) (a b : PathFault) →
+        IsFaultWithin next bound first a → IsFaultWithin next bound first b → a ≡ b }
+{}
+
+/// Every chain has a path or a first fault: one by a function, where the nodes below a bound have a
+/// link, and so one by a list of links.
+pub fn every_chain_has_a_path_or_a_fault()
+    ensures law { (next : ℕ → Option ℕ) (bound : ℕ) (first : Option ℕ) →
+        ((nodes : List ℕ) × IsPathWithin next bound first nodes) ⊎ ((fault : PathFault) × IsFaultWithin next bound first fault) }
+    ensures links { (links : List (Option ℕ)) (first : Option ℕ) →
+        ((nodes : List ℕ) × IsPathIn links first nodes) ⊎ ((fault : PathFault) × IsFaultOf links first fault) }
 {}
 
 #[cfg(test)]
@@ -57,5 +67,6 @@ mod tests {
         way_stays();
         path_has_no_fault();
         first_fault_is_one();
+        every_chain_has_a_path_or_a_fault();
     }
 }

@@ -1,10 +1,10 @@
--- The last link of a way, and what a store there leaves.
-use Rattle.std.proofs.Common.{◌≡◌, ℕ, List, [], ◌∷◌, ◌++◌, ◌⊎◌, ⊎_elim, inl, inr, Option, refl, sym, ap, subst}
-use Rattle.chain_core.specs.Path.{Leads}
-use Rattle.chain_core.proofs.Members.{On, Once}
+-- The last link of a way, and where a way goes in the middle.
+use Rattle.std.proofs.Common.{◌≡◌, ℕ, List, [], ◌∷◌, ◌++◌, ◌⊎◌, ⊎_elim, inl, inr, Option, Some, None, refl, ap}
+use Rattle.chain_core.specs.Path.{Leads, IsPath}
+use Rattle.chain_core.proofs.Members.{On}
 use Rattle.resize_core.specs.declared.moves.Place.{Place}
 use Rattle.resize_core.specs.declared.moves.Place.TheVariants.{Link}
-use Rattle.resize_core.specs.Join.{end_of}
+use Rattle.resize_core.specs.Moves.{end_of}
 
 -- the end of a way with one more node
 pub end_of-push : (head : Place) (nodes : List ℕ) (node : ℕ) → end_of head (nodes ++ node ∷ []) ≡ Link node
@@ -23,26 +23,22 @@ pub on_last : (front : List ℕ) (last : ℕ) → On last (front ++ last ∷ [])
 on_last [] last = inl refl
 on_last (x ∷ front) last = inr (on_last front last)
 
--- a way whose last node gets another next one leads there
-pub leads_aside : (next new : ℕ → Option ℕ) (last : ℕ) (to aside : Option ℕ) → new last ≡ aside → ((node : ℕ) → (node ≡ last → ⊥) → new node ≡ next node) →
-    (from : Option ℕ) (front : List ℕ) → Once (front ++ last ∷ []) → Leads next from (front ++ last ∷ []) to → Leads new from (front ++ last ∷ []) aside
-leads_aside next new last to aside stored other from [] once way = (way.0, stored)
-leads_aside next new last to aside stored other from (x ∷ front) once way =
-    let apart : x ≡ last → ⊥ = (λ same. once.0 (subst (λ n. On n (front ++ last ∷ [])) (sym same) (on_last front last))) in
-    (way.0, subst (λ a. Leads new a (front ++ last ∷ []) aside) (sym (other x apart)) (leads_aside next new last to aside stored other (next x) front once.1 way.1))
-
 -- a way ends where the last of its nodes leads
 pub leads_last : (next : ℕ → Option ℕ) (from to : Option ℕ) (front : List ℕ) (last : ℕ) → Leads next from (front ++ last ∷ []) to → next last ≡ to
 leads_last next from to [] last way = way.1
 leads_last next from to (x ∷ front) last way = leads_last next (next x) to front last way.1
 
--- what stands on a list with one more node
-pub on_push : (nodes : List ℕ) (node other : ℕ) → On other (nodes ++ node ∷ []) → On other nodes ⊎ (other ≡ node)
-on_push [] node other on = ⊎_elim (λ same. inr (sym same)) (λ none. absurd none) on
-on_push (x ∷ nodes) node other on = ⊎_elim (λ here. inl (inl here)) (λ later. ⊎_elim (λ before. inl (inr before)) (λ same. inr same) (on_push nodes node other later)) on
+-- the two parts of a way that meets a node
+pub leads_to_node : (next : ℕ → Option ℕ) (from to : Option ℕ) (xs ys : List ℕ) (node : ℕ) → Leads next from (xs ++ node ∷ ys) to → Leads next from xs (Some node) × Leads next (next node) ys to
+leads_to_node next from to [] ys node way = way
+leads_to_node next from to (x ∷ xs) ys node way = let rest = leads_to_node next (next x) to xs ys node way.1 in ((way.0, rest.0), rest.1)
 
--- no node of a list with one more stands there twice
-pub once_push : (nodes : List ℕ) (node : ℕ) → Once nodes → (On node nodes → ⊥) → Once (nodes ++ node ∷ [])
-once_push [] node once absent = ((λ on. on), tt)
-once_push (x ∷ nodes) node once absent =
-    ((λ on. ⊎_elim once.0 (λ same. absent (inl same)) (on_push nodes node x on)), once_push nodes node once.1 (λ on. absent (inr on)))
+-- the first of these nodes
+abbrev pub first_of : List ℕ → Option ℕ
+first_of [] = None
+first_of (node ∷ nodes) = Some node
+
+-- a path begins at the first of its nodes
+pub begins : (next : ℕ → Option ℕ) (from : Option ℕ) (nodes : List ℕ) → IsPath next from nodes → from ≡ first_of nodes
+begins next from [] path = path
+begins next from (node ∷ nodes) path = path.0

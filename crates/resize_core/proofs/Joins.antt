@@ -1,57 +1,46 @@
 -- The move that joins two chains.
-use Rattle.std.proofs.Common.{◌≡◌, ◌<◌, ◌-◌, ℕ, suc, List, [], ◌∷◌, ◌++◌, ⊎_elim, length, Option, Some, None, sym, ap, subst, ◌∙◌}
-use Rattle.std.specs.List.{Contains, All, slice_get}
-use Rattle.std.proofs.lemmas.Option.{slice_get-get_or}
-use Rattle.std.proofs.lemmas.List.Elements.{All-nil, All-cons}
+use Rattle.std.proofs.Common.{◌≡◌, ◌<◌, ◌-◌, ℕ, suc, List, [], ◌∷◌, ◌++◌, ⊎_elim, length, Option, Some, sym, ap, subst, ◌∙◌}
+use Rattle.std.specs.List.{All, slice_get}
+use Rattle.std.proofs.lemmas.List.Elements.{All-nil, All-cons, All-append}
 use native.Mathlib.Omega.{arith}
-use Rattle.chain_core.specs.Path.{IsPath, IsPathIn, next_in}
-use Rattle.chain_core.proofs.Members.{On, Contains-from_On, on_all}
-use Rattle.chain_core.proofs.Links.{path_append, path_elsewhere}
+use Rattle.chain_core.specs.Path.{IsPathIn, next_in}
+use Rattle.chain_core.proofs.Members.{On, on_all}
 use Rattle.resize_core.specs.declared.moves.Heads.{Heads}
 use Rattle.resize_core.specs.declared.moves.Move.{Move}
 use Rattle.resize_core.specs.declared.moves.Place.{Place}
 use Rattle.resize_core.specs.declared.moves.Place.TheVariants.{EvenHead, Link}
-use Rattle.resize_core.specs.Moves.{IsPlaceIn, links_at, heads_at}
-use Rattle.resize_core.specs.Join.{end_of, joining, ShareNone}
-use Rattle.resize_core.proofs.Ends.{end_cases, on_last, leads_last}
+use Rattle.resize_core.specs.Moves.{IsPlaceIn, split_in, end_of, links_at, links_after, heads_at, heads_after, next_at}
+use Rattle.resize_core.specs.Join.{joining, ShareNone}
+use Rattle.resize_core.proofs.Ends.{end_cases, on_last}
+use Rattle.resize_core.proofs.Steps.{joined_paths}
+use Rattle.resize_core.proofs.Places.{next_in-at, length-links_at, path_in_after}
+
+-- the last node of a path has a link
+last_within : (links : List (Option ℕ)) (first : Option ℕ) (nodes front : List ℕ) (last : ℕ) → IsPathIn links first nodes → nodes ≡ front ++ last ∷ [] → last < length links
+last_within links first nodes front last is same = on_all (λ n. n < length links) nodes last is.inside (subst (On last) (sym same) (on_last front last))
+
+end_in : (links : List (Option ℕ)) (first : Option ℕ) (even : List ℕ) → IsPathIn links first even → IsPlaceIn (length links) (end_of EvenHead even)
+end_in links first even low = ⊎_elim
+    (λ none. subst (IsPlaceIn (length links)) (sym none.1) tt)
+    (λ some. subst (IsPlaceIn (length links)) (sym some.3) (last_within links first even some.0 some.1 low some.2))
+    (end_cases EvenHead even)
 
 -- what the move leaves of the even and of the odd path
-abbrev pub Joined : List (Option ℕ) → Heads → Place → List ℕ → List ℕ → Type 0
-Joined links heads place even odd =
-    IsPathIn (links_at links place heads.odd) (heads_at heads place heads.odd).even (even ++ odd) × IsPathIn (links_at links place heads.odd) (heads_at heads place heads.odd).odd odd
-
--- the last node of a path has a link, which leads to no node
-last_within : (links : List (Option ℕ)) (first : Option ℕ) (nodes front : List ℕ) (last : ℕ) → IsPathIn links first nodes → nodes ≡ front ++ last ∷ [] →
-    (last < length links) × (next_in links last ≡ None) × Contains nodes last
-last_within links first nodes front last is same =
-    let on : On last nodes = subst (On last) (sym same) (on_last front last) in (
-      on_all (λ n. n < length links) nodes last is.inside on,
-      leads_last (next_in links) first None front last (subst (IsPath (next_in links) first) same is.path),
-      Contains-from_On nodes last on,
+pub joined : (links : List (Option ℕ)) (heads : Heads) (even odd : List ℕ) → IsPathIn links heads.even even → IsPathIn links heads.odd odd → ShareNone even odd →
+    IsPathIn (links_after links (joining heads even)) (heads_after heads (joining heads even)).even (even ++ odd) × IsPathIn (links_after links (joining heads even)) (heads_after heads (joining heads even)).odd odd
+joined links heads even odd low high apart =
+    let place = end_of EvenHead even in
+    let new = links_at links place heads.odd in
+    let same = next_in-at links place heads.odd (end_in links heads.even even low) in
+    let size = length-links_at links place heads.odd in
+    let both = joined_paths (split_in links heads) even odd low.path high.path apart in (
+      path_in_after links new (next_at (next_in links) place heads.odd) (heads_at heads place heads.odd).even (even ++ odd) same size both.0 (All-append (λ n. n < length links) even odd low.inside high.inside),
+      path_in_after links new (next_at (next_in links) place heads.odd) (heads_at heads place heads.odd).odd odd same size both.1 high.inside,
     )
-
-pub joined : (links : List (Option ℕ)) (heads : Heads) (even odd : List ℕ) → IsPathIn links heads.even even → IsPathIn links heads.odd odd → ShareNone even odd → Joined links heads (end_of EvenHead even) even odd
-joined links heads even odd low high apart = ⊎_elim
-    (λ none. subst (λ place. Joined links heads place even odd) (sym none.1) (subst (λ l. IsPathIn links heads.odd (l ++ odd)) (sym none.0) high, high))
-    (λ some.
-    let last = some.1 in
-    let within = last_within links heads.even even some.0 last low some.2 in
-    let ends : slice_get links last ≡ Some None = slice_get-get_or links last None within.0 ∙ ap Some within.1 in
-    subst (λ place. Joined links heads place even odd) (sym some.3) (
-      path_append links last heads.odd ends heads.even even odd low within.2 high (apart last within.2),
-      path_elsewhere links last heads.odd heads.odd odd high (apart last within.2),
-    ))
-    (end_cases EvenHead even)
 
 -- the move stores at the even head or at a link that is there
 pub joining_in : (links : List (Option ℕ)) (heads : Heads) (even : List ℕ) → IsPathIn links heads.even even → All (λ (step : Move). IsPlaceIn (length links) step.place) (joining heads even ∷ [])
-joining_in links heads even low = All-cons (λ (step : Move). IsPlaceIn (length links) step.place) (joining heads even) [] place_in (All-nil (λ (step : Move). IsPlaceIn (length links) step.place))
-  where
-    place_in : IsPlaceIn (length links) (end_of EvenHead even)
-    place_in = ⊎_elim
-        (λ none. subst (IsPlaceIn (length links)) (sym none.1) tt)
-        (λ some. subst (IsPlaceIn (length links)) (sym some.3) (last_within links heads.even even some.0 some.1 low some.2).0)
-        (end_cases EvenHead even)
+joining_in links heads even low = All-cons (λ (step : Move). IsPlaceIn (length links) step.place) (joining heads even) [] (end_in links heads.even even low) (All-nil (λ (step : Move). IsPlaceIn (length links) step.place))
 
 -- what the end of a list of nodes is, by its last one
 pub end_of-some : (head : Place) (nodes : List ℕ) (last : ℕ) → slice_get nodes (length nodes - 1) ≡ Some last → end_of head nodes ≡ Link last

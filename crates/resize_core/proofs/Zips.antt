@@ -1,139 +1,117 @@
 -- A chain that is being unzipped, move by move.
-use Rattle.std.proofs.Common.{◌≡◌, ◌<◌, ℕ, zero, suc, List, [], ◌∷◌, ◌++◌, ⊎_elim, inl, inr, length, take, drop, Bool, true, false, not, Option, None, refl, sym, ap, subst, ◌∙◌, append_assoc, set, cond}
-use Rattle.std.specs.List.{All, filter}
-use Rattle.std.proofs.lemmas.Bool.{not-true, not_from_true, not_from_false, cases_Bool}
-use Rattle.std.proofs.lemmas.List.Elements.{All-nil, All-cons, All-head, All-tail}
+use Rattle.std.proofs.Common.{◌≡◌, ◌<◌, ℕ, zero, suc, List, [], ◌∷◌, ◌++◌, ⊎_elim, length, take, drop, get_or, Bool, true, false, not, Option, Some, None, refl, sym, ap, subst, ◌∙◌, append_assoc}
+use native.Mathlib.Omega.{arith}
+use Rattle.std.specs.List.{All, filter, slice_get}
+use Rattle.std.proofs.Math.Seq.{take-suc}
+use Rattle.std.proofs.lemmas.Bool.{not_from_true, not_from_false, cases_Bool, cases_lt}
+use Rattle.std.proofs.lemmas.List.{append-nil, take_all, take-append-drop}
+use Rattle.std.proofs.lemmas.List.Elements.{All-nil, All-cons, All-head, All-tail, All-take, All-drop, All-filter, All-append}
+use Rattle.std.proofs.lemmas.List.Sums.{fold_push}
+use Rattle.std.proofs.lemmas.Option.{slice_get-get_or, slice_get_within, get_or_from_slice_get}
 use Rattle.chain_core.specs.Path.{IsPath, IsPathIn, next_in}
-use Rattle.chain_core.proofs.Members.{On, on_either, on_all}
-use Rattle.chain_core.proofs.Ways.{leads_on, path_once}
 use Rattle.resize_core.specs.declared.moves.Heads.{Heads}
 use Rattle.resize_core.specs.declared.moves.Move.{Move}
 use Rattle.resize_core.specs.declared.moves.Place.{Place}
 use Rattle.resize_core.specs.declared.moves.Place.TheVariants.{EvenHead, OddHead, Link}
-use Rattle.resize_core.specs.Moves.{IsPlaceIn, links_at, heads_at, links_after_all, heads_after_all}
-use Rattle.resize_core.specs.Unzip.{moves_of, place_past, even_end, odd_end, side_after, IsUnzipped}
-use Rattle.resize_core.specs.Join.{end_of}
-use Rattle.resize_core.proofs.Ends.{end_cases}
-use Rattle.resize_core.proofs.Sides.{first_of, Rest, Side, Led, led_leaves, side_led, side_gains, rest_left}
+use Rattle.resize_core.specs.Moves.{IsPlaceIn, Split, end_of, links_after_all, heads_after_all, after_move, after_moves}
+use Rattle.resize_core.specs.Unzip.{moves_of, move_past, place_past, even_end, odd_end, side_after, IsSplit, IsUnzipped}
+use Rattle.resize_core.proofs.Ends.{end_of-push, leads_to_node, begins}
+use Rattle.resize_core.proofs.Sides.{drop_from, filter_mine, filter_other, side_whole}
+use Rattle.resize_core.proofs.Steps.{one_move}
+use Rattle.resize_core.proofs.Places.{split_in-after_all, length-links_after_all, path_in_after}
 
--- the two sides of a chain that is being unzipped, and the nodes that are left
-pub record Zip (original links : List (Option ℕ)) (heads : Heads) (is_odd : ℕ → Bool) (even odd : Place) (evens odds rest : List ℕ) : Type 0 where
-  pub low : Side links heads.even (λ node. not (is_odd node)) EvenHead even evens rest
-  pub high : Side links heads.odd is_odd OddHead odd odds rest
-  pub left : Rest links rest
-  pub kept : (node : ℕ) → On node rest → next_in links node ≡ next_in original node
+-- where a side ends after one more node, which is its own or not
+end_mine : (top : Place) (belongs : ℕ → Bool) (passed : List ℕ) (node : ℕ) → belongs node ≡ true → Link node ≡ end_of top (filter belongs (passed ++ node ∷ []))
+end_mine top belongs passed node mine = sym (ap (end_of top) (filter_mine belongs passed node mine) ∙ end_of-push top (filter belongs passed) node)
 
-all_from_on : (P : ℕ → Type 0) (xs : List ℕ) → ((node : ℕ) → On node xs → P node) → All P xs
-all_from_on P [] on = All-nil P
-all_from_on P (x ∷ xs) on = All-cons P x xs (on x (inl refl)) (all_from_on P xs (λ node later. on node (inr later)))
+end_other : (top : Place) (belongs : ℕ → Bool) (passed : List ℕ) (node : ℕ) → belongs node ≡ false → end_of top (filter belongs passed) ≡ end_of top (filter belongs (passed ++ node ∷ []))
+end_other top belongs passed node other = sym (ap (end_of top) (filter_other belongs passed node other))
 
--- the path of a side
-side_path : (links : List (Option ℕ)) (head : Option ℕ) (mine : ℕ → Bool) (top place : Place) (own rest : List ℕ) → Side links head mine top place own rest → Rest links rest → IsPathIn links head (own ++ rest)
-side_path links head mine top place own rest side left = record {
-  path = leads_on (next_in links) head (first_of rest) None own rest side.leads left.path;
-  inside = all_from_on (λ node. node < length links) (own ++ rest) (λ node on. ⊎_elim (side.inside node) (left.inside node) (on_either own rest node on));
-}
-
--- what is led past a node, and that the other head stays
-led_even : (links : List (Option ℕ)) (heads : Heads) (place : Place) (own : List ℕ) (to behind : Option ℕ) → place ≡ end_of EvenHead own → to ≡ behind →
-    Led links (links_at links place to) heads.even (heads_at heads place to).even behind own × ((heads_at heads place to).odd ≡ heads.odd)
-led_even links heads place own to behind ends same = ⊎_elim
-    (λ none. let is : place ≡ EvenHead = ends ∙ none.1 in
-    (inl (none.0, ap (λ p. links_at links p to) is, ap (λ p. (heads_at heads p to).even) is ∙ same), ap (λ p. (heads_at heads p to).odd) is))
-    (λ some. let is : place ≡ Link some.1 = ends ∙ some.3 in
-    (inr (some.0, some.1, some.2, ap (λ p. (heads_at heads p to).even) is, ap (λ p. links_at links p to) is ∙ ap (set links some.1) same), ap (λ p. (heads_at heads p to).odd) is))
-    (end_cases EvenHead own)
-
-led_odd : (links : List (Option ℕ)) (heads : Heads) (place : Place) (own : List ℕ) (to behind : Option ℕ) → place ≡ end_of OddHead own → to ≡ behind →
-    Led links (links_at links place to) heads.odd (heads_at heads place to).odd behind own × ((heads_at heads place to).even ≡ heads.even)
-led_odd links heads place own to behind ends same = ⊎_elim
-    (λ none. let is : place ≡ OddHead = ends ∙ none.1 in
-    (inl (none.0, ap (λ p. links_at links p to) is, ap (λ p. (heads_at heads p to).odd) is ∙ same), ap (λ p. (heads_at heads p to).even) is))
-    (λ some. let is : place ≡ Link some.1 = ends ∙ some.3 in
-    (inr (some.0, some.1, some.2, ap (λ p. (heads_at heads p to).odd) is, ap (λ p. links_at links p to) is ∙ ap (set links some.1) same), ap (λ p. (heads_at heads p to).even) is))
-    (end_cases OddHead own)
-
-begins : (next : ℕ → Option ℕ) (from : Option ℕ) (nodes : List ℕ) → IsPath next from nodes → from ≡ first_of nodes
-begins next from [] path = path
-begins next from (x ∷ nodes) path = path.0
-
--- at an odd node the even side is led past it
-pass_odd : (original links : List (Option ℕ)) (heads : Heads) (is_odd : ℕ → Bool) (even odd : Place) (evens odds rest : List ℕ) (node : ℕ) → Zip original links heads is_odd even odd evens odds (node ∷ rest) → is_odd node ≡ true →
-    Zip original (links_at links even (next_in original node)) (heads_at heads even (next_in original node)) is_odd even (Link node) evens (odds ++ node ∷ []) rest
-pass_odd original links heads is_odd even odd evens odds rest node zip mark =
-    let to = next_in original node in
-    let new = links_at links even to in
-    let behind : to ≡ first_of rest = sym (zip.kept node (inl refl)) ∙ begins (next_in links) (next_in links node) rest zip.left.path.1 in
-    let led = led_even links heads even evens to (first_of rest) zip.low.ends behind in
-    let leaves = led_leaves links new heads.even (heads_at heads even to).even (first_of rest) evens led.0 in
-    let not_odd : (n : ℕ) → On n evens → is_odd n ≡ false = (λ n on. not-true (is_odd n) (zip.low.belongs n on)) in
-    record {
-      low = side_led links new heads.even (heads_at heads even to).even (λ n. not (is_odd n)) EvenHead even evens rest node zip.low led.0;
-      high = subst (λ head. Side new head is_odd OddHead (Link node) (odds ++ node ∷ []) rest) (sym led.1)
-          (side_gains links new heads.odd is_odd (λ n. not (is_odd n)) OddHead odd odds evens rest node zip.high zip.left leaves not_odd mark);
-      left = rest_left links new evens rest node zip.left leaves zip.low.apart;
-      kept = (λ n on. leaves.2 n (λ before. zip.low.apart n before (inr on)) ∙ zip.kept n (inr on));
-    }
-
--- at an even node the odd side is
-pass_even : (original links : List (Option ℕ)) (heads : Heads) (is_odd : ℕ → Bool) (even odd : Place) (evens odds rest : List ℕ) (node : ℕ) → Zip original links heads is_odd even odd evens odds (node ∷ rest) → is_odd node ≡ false →
-    Zip original (links_at links odd (next_in original node)) (heads_at heads odd (next_in original node)) is_odd (Link node) odd (evens ++ node ∷ []) odds rest
-pass_even original links heads is_odd even odd evens odds rest node zip mark =
-    let to = next_in original node in
-    let new = links_at links odd to in
-    let behind : to ≡ first_of rest = sym (zip.kept node (inl refl)) ∙ begins (next_in links) (next_in links node) rest zip.left.path.1 in
-    let led = led_odd links heads odd odds to (first_of rest) zip.high.ends behind in
-    let leaves = led_leaves links new heads.odd (heads_at heads odd to).odd (first_of rest) odds led.0 in
-    let not_even : (n : ℕ) → On n odds → not (is_odd n) ≡ false = (λ n on. not_from_true (is_odd n) (zip.high.belongs n on)) in
-    record {
-      low = subst (λ head. Side new head (λ n. not (is_odd n)) EvenHead (Link node) (evens ++ node ∷ []) rest) (sym led.1)
-          (side_gains links new heads.even (λ n. not (is_odd n)) is_odd EvenHead even evens odds rest node zip.low zip.left leaves not_even (not_from_false (is_odd node) mark));
-      high = side_led links new heads.odd (heads_at heads odd to).odd is_odd OddHead odd odds rest node zip.high led.0;
-      left = rest_left links new odds rest node zip.left leaves zip.high.apart;
-      kept = (λ n on. leaves.2 n (λ before. zip.high.apart n before (inr on)) ∙ zip.kept n (inr on));
-    }
-
--- the two paths after moves
-abbrev After : List (Option ℕ) → Heads → List Move → List ℕ → List ℕ → Type 0
-After links heads moves even odd = IsPathIn (links_after_all links moves) (heads_after_all heads moves).even even × IsPathIn (links_after_all links moves) (heads_after_all heads moves).odd odd
-
--- the same where the first node is odd or not
-abbrev Passed : List (Option ℕ) → List (Option ℕ) → Heads → (ℕ → Bool) → Place → Place → List ℕ → List ℕ → List ℕ → ℕ → ℕ → Bool → Type 0
-Passed original links heads is_odd even odd evens odds rest node k mark =
-    After (links_at links (place_past mark even odd) (next_in original node)) (heads_at heads (place_past mark even odd) (next_in original node))
-    (take k (moves_of (next_in original) is_odd (even_end mark even node) (odd_end mark odd node) rest))
-    (evens ++ (cond (not mark) (node ∷ filter (λ n. not (is_odd n)) (take k rest)) (filter (λ n. not (is_odd n)) (take k rest)) ++ drop k rest))
-    (odds ++ (cond mark (node ∷ filter is_odd (take k rest)) (filter is_odd (take k rest)) ++ drop k rest))
-
-pub zip_paths : (original : List (Option ℕ)) (is_odd : ℕ → Bool) (k : ℕ) (rest : List ℕ) (links : List (Option ℕ)) (heads : Heads) (even odd : Place) (evens odds : List ℕ) → Zip original links heads is_odd even odd evens odds rest →
-    After links heads (take k (moves_of (next_in original) is_odd even odd rest)) (evens ++ side_after (λ node. not (is_odd node)) k rest) (odds ++ side_after is_odd k rest)
-zip_paths original is_odd zero rest links heads even odd evens odds zip = (side_path links heads.even _ _ _ evens rest zip.low zip.left, side_path links heads.odd _ _ _ odds rest zip.high zip.left)
-zip_paths original is_odd (suc k) [] links heads even odd evens odds zip = (side_path links heads.even _ _ _ evens [] zip.low zip.left, side_path links heads.odd _ _ _ odds [] zip.high zip.left)
-zip_paths original is_odd (suc k) (node ∷ rest) links heads even odd evens odds zip = ⊎_elim
-    (λ mark. subst (Passed original links heads is_odd even odd evens odds rest node k) (sym mark)
-    (let more = zip_paths original is_odd k rest (links_at links even (next_in original node)) (heads_at heads even (next_in original node)) even (Link node) evens (odds ++ node ∷ []) (pass_odd original links heads is_odd even odd evens odds rest node zip mark) in
-    (more.0, subst (IsPathIn _ _) (append_assoc odds (node ∷ []) (side_after is_odd k rest)) more.1)))
-    (λ mark. subst (Passed original links heads is_odd even odd evens odds rest node k) (sym mark)
-    (let more = zip_paths original is_odd k rest (links_at links odd (next_in original node)) (heads_at heads odd (next_in original node)) (Link node) odd (evens ++ node ∷ []) odds (pass_even original links heads is_odd even odd evens odds rest node zip mark) in
-    (subst (IsPathIn _ _) (append_assoc evens (node ∷ []) (side_after (λ n. not (is_odd n)) k rest)) more.0, more.1)))
+even_end_is : (is_odd : ℕ → Bool) (passed : List ℕ) (node : ℕ) →
+    even_end (is_odd node) (end_of EvenHead (filter (λ n. not (is_odd n)) passed)) node ≡ end_of EvenHead (filter (λ n. not (is_odd n)) (passed ++ node ∷ []))
+even_end_is is_odd passed node = ⊎_elim
+    (λ odd. ap (λ b. even_end b (end_of EvenHead (filter (λ n. not (is_odd n)) passed)) node) odd ∙ end_other EvenHead (λ n. not (is_odd n)) passed node (not_from_true (is_odd node) odd))
+    (λ even. ap (λ b. even_end b (end_of EvenHead (filter (λ n. not (is_odd n)) passed)) node) even ∙ end_mine EvenHead (λ n. not (is_odd n)) passed node (not_from_false (is_odd node) even))
     (cases_Bool (is_odd node))
 
--- at first no side has passed a node
-zip_first : (links : List (Option ℕ)) (first : Option ℕ) (is_odd : ℕ → Bool) (nodes : List ℕ) → IsPathIn links first nodes → Zip links links (record { even = first; odd = first }) is_odd EvenHead OddHead [] [] nodes
-zip_first links first is_odd nodes is =
-    let from : first ≡ first_of nodes = begins (next_in links) first nodes is.path in
-    record {
-      low = record { leads = from; ends = refl; belongs = (λ node on. absurd on); once = tt; apart = (λ node on later. on); inside = (λ node on. absurd on) };
-      high = record { leads = from; ends = refl; belongs = (λ node on. absurd on); once = tt; apart = (λ node on later. on); inside = (λ node on. absurd on) };
-      left = record { path = subst (λ a. IsPath (next_in links) a nodes) from is.path; once = path_once (next_in links) first nodes is.path; inside = (λ node on. on_all (λ n. n < length links) nodes node is.inside on) };
-      kept = (λ node on. refl);
-    }
+odd_end_is : (is_odd : ℕ → Bool) (passed : List ℕ) (node : ℕ) → odd_end (is_odd node) (end_of OddHead (filter is_odd passed)) node ≡ end_of OddHead (filter is_odd (passed ++ node ∷ []))
+odd_end_is is_odd passed node = ⊎_elim
+    (λ odd. ap (λ b. odd_end b (end_of OddHead (filter is_odd passed)) node) odd ∙ end_mine OddHead is_odd passed node odd)
+    (λ even. ap (λ b. odd_end b (end_of OddHead (filter is_odd passed)) node) even ∙ end_other OddHead is_odd passed node even)
+    (cases_Bool (is_odd node))
 
-pub unzipped : (links : List (Option ℕ)) (first : Option ℕ) (is_odd : ℕ → Bool) (nodes : List ℕ) (moves : List Move) (k : ℕ) → IsPathIn links first nodes →
-    moves ≡ moves_of (next_in links) is_odd EvenHead OddHead nodes → IsUnzipped links first is_odd nodes moves k
-unzipped links first is_odd nodes moves k is same =
-    let paths = zip_paths links is_odd k nodes links (record { even = first; odd = first }) EvenHead OddHead [] [] (zip_first links first is_odd nodes is) in
-    subst (λ l. IsUnzipped links first is_odd nodes l k) (sym same) (record { even = paths.0; odd = paths.1 })
+-- the moves at the nodes that are left, after these were passed
+abbrev pub moves_left : (ℕ → Option ℕ) → (ℕ → Bool) → List ℕ → List ℕ → List Move
+moves_left next is_odd passed nodes = moves_of next is_odd (end_of EvenHead (filter (λ n. not (is_odd n)) passed)) (end_of OddHead (filter is_odd passed)) nodes
+
+moves_on : (next : ℕ → Option ℕ) (is_odd : ℕ → Bool) (passed nodes : List ℕ) (node : ℕ) → moves_left next is_odd passed (node ∷ nodes) ≡ move_past next is_odd passed node ∷ moves_left next is_odd (passed ++ node ∷ []) nodes
+moves_on next is_odd passed nodes node =
+    ap (λ even. move_past next is_odd passed node ∷ moves_of next is_odd even (odd_end (is_odd node) (end_of OddHead (filter is_odd passed)) node) nodes) (even_end_is is_odd passed node)
+    ∙ ap (λ odd. move_past next is_odd passed node ∷ moves_of next is_odd (end_of EvenHead (filter (λ n. not (is_odd n)) (passed ++ node ∷ []))) odd nodes) (odd_end_is is_odd passed node)
+
+pub length-moves_of : (next : ℕ → Option ℕ) (is_odd : ℕ → Bool) (even odd : Place) (nodes : List ℕ) → length (moves_of next is_odd even odd nodes) ≡ length nodes
+length-moves_of next is_odd even odd [] = refl
+length-moves_of next is_odd even odd (node ∷ nodes) = ap suc (length-moves_of next is_odd (even_end (is_odd node) even node) (odd_end (is_odd node) odd node) nodes)
+
+-- each move is that of its node
+move_at : (next : ℕ → Option ℕ) (is_odd : ℕ → Bool) (passed nodes : List ℕ) (k node : ℕ) → slice_get nodes k ≡ Some node →
+    slice_get (moves_left next is_odd passed nodes) k ≡ Some (move_past next is_odd (passed ++ take k nodes) node)
+move_at next is_odd passed [] k node at = absurd (cc)
+move_at next is_odd passed (x ∷ nodes) zero node at =
+    let same : x ≡ node = cc in
+    ap (λ n. Some (move_past next is_odd passed n)) same ∙ ap (λ l. Some (move_past next is_odd l node)) (sym (append-nil passed))
+move_at next is_odd passed (x ∷ nodes) (suc k) node at =
+    ap (λ l. slice_get l (suc k)) (moves_on next is_odd passed nodes x) ∙ move_at next is_odd (passed ++ x ∷ []) nodes k node at
+    ∙ ap (λ l. Some (move_past next is_odd l node)) (append_assoc passed (x ∷ []) (take k nodes))
+
+pub move_of_node : (next : ℕ → Option ℕ) (is_odd : ℕ → Bool) (nodes : List ℕ) (k node : ℕ) → slice_get nodes k ≡ Some node →
+    slice_get (moves_of next is_odd EvenHead OddHead nodes) k ≡ Some (move_past next is_odd (take k nodes) node)
+move_of_node next is_odd nodes k node at = move_at next is_odd [] nodes k node at
+
+-- at first both heads lead to all nodes
+pub split_first : (next : ℕ → Option ℕ) (first : Option ℕ) (is_odd : ℕ → Bool) (nodes : List ℕ) → IsPath next first nodes → IsSplit (record { heads = record { even = first; odd = first }; next = next }) is_odd nodes zero
+split_first next first is_odd nodes path = record { even = path; odd = path }
+
+-- the nodes that are left are the same in each state, so the next node of the one that is passed is that of the first state
+next_stays : (next new : ℕ → Option ℕ) (first head : Option ℕ) (nodes own : List ℕ) (k node : ℕ) → slice_get nodes k ≡ Some node → IsPath next first nodes → IsPath new head (own ++ drop k nodes) → new node ≡ next node
+next_stays next new first head nodes own k node at path now =
+    let rest = drop (suc k) nodes in
+    let before = leads_to_node next first None (take k nodes) rest node (subst (IsPath next first) (sym (take-append-drop k nodes) ∙ ap (λ l. take k nodes ++ l) (drop_from nodes k node at)) path) in
+    let after = leads_to_node new head None own rest node (subst (λ l. IsPath new head (own ++ l)) (drop_from nodes k node at) now) in
+    begins new (new node) rest after.1 ∙ sym (begins next (next node) rest before.1)
+
+-- after the first k moves both paths are those after k moves
+pub split_after : (next : ℕ → Option ℕ) (first : Option ℕ) (is_odd : ℕ → Bool) (nodes : List ℕ) (k : ℕ) → IsPath next first nodes →
+    IsSplit (after_moves (record { heads = record { even = first; odd = first }; next = next }) (take k (moves_of next is_odd EvenHead OddHead nodes))) is_odd nodes k
+split_after next first is_odd nodes zero path = split_first next first is_odd nodes path
+split_after next first is_odd nodes (suc k) path =
+    let start : Split = record { heads = record { even = first; odd = first }; next = next } in
+    let moves = moves_of next is_odd EvenHead OddHead nodes in
+    let size = length-moves_of next is_odd EvenHead OddHead nodes in
+    let split = after_moves start (take k moves) in
+    let is = split_after next first is_odd nodes k path in
+    ⊎_elim
+    (λ within.
+    let node = get_or nodes k 0 in
+    let at : slice_get nodes k ≡ Some node = slice_get-get_or nodes k 0 within in
+    let to : split.next node ≡ next node = next_stays next split.next first split.heads.even nodes (filter (λ n. not (is_odd n)) (take k nodes)) k node at path is.even in
+    let one = one_move split is_odd nodes k node at is in
+    let made = move_of_node next is_odd nodes k node at in
+    let same : move_past split.next is_odd (take k nodes) node ≡ move_past next is_odd (take k nodes) node = ap (λ t. let m : Move = record { place = (move_past next is_odd (take k nodes) node).place; to = t } in m) to in
+    let added : after_moves start (take (suc k) moves) ≡ after_move split (move_past split.next is_odd (take k nodes) node) =
+    ap (after_moves start) (take_move moves k (move_past next is_odd (take k nodes) node) made) ∙ fold_push after_move start (take k moves) (move_past next is_odd (take k nodes) node) ∙ ap (after_move split) (sym same) in
+    subst (λ (s : Split). IsSplit s is_odd nodes (suc k)) (sym added) one)
+    (λ past.
+    let moves_same : take (suc k) moves ≡ take k moves = take_all (suc k) moves (omega (arith, past, size)) ∙ sym (take_all k moves (omega (arith, past, size))) in
+    let sides_same : (belongs : ℕ → Bool) → side_after belongs (suc k) nodes ≡ side_after belongs k nodes = (λ belongs. side_whole belongs nodes (suc k) (omega (arith, past)) ∙ sym (side_whole belongs nodes k past)) in
+    subst (λ l. IsSplit (after_moves start l) is_odd nodes (suc k)) (sym moves_same) (record {
+      even = subst (IsPath split.next split.heads.even) (sym (sides_same (λ n. not (is_odd n)))) is.even;
+      odd = subst (IsPath split.next split.heads.odd) (sym (sides_same is_odd)) is.odd;
+    }))
+    (cases_lt k (length nodes))
+  where
+    take_move : (moves : List Move) (j : ℕ) (step : Move) → slice_get moves j ≡ Some step → take (suc j) moves ≡ take j moves ++ step ∷ []
+    take_move moves j step at = take-suc moves j step (slice_get_within moves j step at) ∙ ap (λ m. take j moves ++ m ∷ []) (get_or_from_slice_get moves j step step at)
 
 -- each move stores at a head or at a link that is there
 place_in : (size : ℕ) (mark : Bool) (even odd : Place) → IsPlaceIn size even → IsPlaceIn size odd → IsPlaceIn size (place_past mark even odd)
@@ -155,3 +133,21 @@ moves_in size next is_odd (node ∷ nodes) even odd low high inside =
     let within = All-head (λ n. n < size) node nodes inside in
     All-cons (λ (step : Move). IsPlaceIn size step.place) _ _ (place_in size (is_odd node) even odd low high)
     (moves_in size next is_odd nodes (even_end (is_odd node) even node) (odd_end (is_odd node) odd node) (even_in size (is_odd node) even node low within) (odd_in size (is_odd node) odd node high within) (All-tail (λ n. n < size) node nodes inside))
+
+-- the same in a list of links
+pub unzipped : (links : List (Option ℕ)) (first : Option ℕ) (is_odd : ℕ → Bool) (nodes : List ℕ) (moves : List Move) (k : ℕ) → IsPathIn links first nodes →
+    moves ≡ moves_of (next_in links) is_odd EvenHead OddHead nodes → IsUnzipped links first is_odd nodes moves k
+unzipped links first is_odd nodes moves k is same =
+    let heads : Heads = record { even = first; odd = first } in
+    let made = take k (moves_of (next_in links) is_odd EvenHead OddHead nodes) in
+    let inside = All-take (λ (step : Move). IsPlaceIn (length links) step.place) k (moves_of (next_in links) is_odd EvenHead OddHead nodes) (moves_in (length links) (next_in links) is_odd nodes EvenHead OddHead tt tt is.inside) in
+    let after = split_in-after_all made links heads inside in
+    let size = length-links_after_all made links in
+    let split = subst (λ (s : Split). IsSplit s is_odd nodes k) (sym after) (split_after (next_in links) first is_odd nodes k is.path) in
+    let within : (belongs : ℕ → Bool) → All (λ node. node < length links) (side_after belongs k nodes) = (λ belongs.
+    All-append (λ node. node < length links) (filter belongs (take k nodes)) (drop k nodes)
+    (All-filter belongs (λ node. node < length links) (take k nodes) (All-take (λ node. node < length links) k nodes is.inside)) (All-drop (λ node. node < length links) k nodes is.inside)) in
+    subst (λ l. IsUnzipped links first is_odd nodes l k) (sym same) (record {
+      even = path_in_after links (links_after_all links made) (next_in (links_after_all links made)) (heads_after_all heads made).even (side_after (λ n. not (is_odd n)) k nodes) refl size split.even (within (λ n. not (is_odd n)));
+      odd = path_in_after links (links_after_all links made) (next_in (links_after_all links made)) (heads_after_all heads made).odd (side_after is_odd k nodes) refl size split.odd (within is_odd);
+    })

@@ -1,3 +1,4 @@
 pub mod Moves
 pub mod Unzip
 pub mod Join
+pub mod Worked

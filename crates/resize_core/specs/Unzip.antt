@@ -1,10 +1,11 @@
 -- Unzipping a chain into an even and an odd one.
 use Rattle.std.specs.Prelude.{ℕ, Bool, false, Option, List, [], ◌∷◌, ◌++◌, filter, not, take, drop, slice_index_or, if◌then◌else◌}
-use Rattle.chain_core.specs.Path.{IsPathIn}
+use Rattle.chain_core.specs.Path.{IsPath, IsPathIn}
+use Rattle.resize_core.specs.declared.moves.Heads.{Heads}
 use Rattle.resize_core.specs.declared.moves.Move.{Move}
 use Rattle.resize_core.specs.declared.moves.Place.{Place}
-use Rattle.resize_core.specs.declared.moves.Place.TheVariants.{Link}
-use Rattle.resize_core.specs.Moves.{links_after_all, heads_after_all}
+use Rattle.resize_core.specs.declared.moves.Place.TheVariants.{EvenHead, OddHead, Link}
+use Rattle.resize_core.specs.Moves.{Split, end_of, links_after_all, heads_after_all}
 
 -- whether a node is odd, by a list of marks
 abbrev pub marked_odd : List Bool → ℕ → Bool
@@ -27,11 +28,27 @@ moves_of next is_odd even odd [] = []
 moves_of next is_odd even odd (node ∷ nodes) =
     record { place = place_past (is_odd node) even odd; to = next node } ∷ moves_of next is_odd (even_end (is_odd node) even node) (odd_end (is_odd node) odd node) nodes
 
--- one side after so many moves: those of its own among as many nodes, and then all that come behind them
+-- the move at a node after these nodes were passed: the other side is led past it by the link of its last own node, or by its head
+abbrev pub move_past : (ℕ → Option ℕ) → (ℕ → Bool) → List ℕ → ℕ → Move
+move_past next is_odd passed node = record {
+  place = place_past (is_odd node) (end_of EvenHead (filter (λ other. not (is_odd other)) passed)) (end_of OddHead (filter is_odd passed));
+  to = next node;
+}
+
+-- one side after so many moves: those of its own among as many nodes, and then all that come after them
 abbrev pub side_after : (ℕ → Bool) → ℕ → List ℕ → List ℕ
 side_after belongs k nodes = filter belongs (take k nodes) ++ drop k nodes
 
--- after the first k moves the even and the odd path are these
-pub record IsUnzipped (links : List (Option ℕ)) (first : Option ℕ) (is_odd : ℕ → Bool) (nodes : List ℕ) (moves : List Move) (k : ℕ) : Type 0 where
-  pub even : IsPathIn (links_after_all links (take k moves)) (heads_after_all (record { even = first; odd = first }) (take k moves)).even (side_after (λ node. not (is_odd node)) k nodes)
-  pub odd : IsPathIn (links_after_all links (take k moves)) (heads_after_all (record { even = first; odd = first }) (take k moves)).odd (side_after is_odd k nodes)
+-- what each head leads to after the first k moves at these nodes
+pub record HasSides (LeadsTo : Option ℕ → List ℕ → Type 0) (heads : Heads) (is_odd : ℕ → Bool) (nodes : List ℕ) (k : ℕ) : Type 0 where
+  pub even : LeadsTo heads.even (side_after (λ node. not (is_odd node)) k nodes)
+  pub odd : LeadsTo heads.odd (side_after is_odd k nodes)
+
+-- the even and the odd path are those after the first k moves
+abbrev pub IsSplit : Split → (ℕ → Bool) → List ℕ → ℕ → Type 0
+IsSplit split is_odd nodes k = HasSides (IsPath split.next) split.heads is_odd nodes k
+
+-- after the first k moves, made in a list of links where both heads lead to `first`, the even and the odd path are these
+abbrev pub IsUnzipped : List (Option ℕ) → Option ℕ → (ℕ → Bool) → List ℕ → List Move → ℕ → Type 0
+IsUnzipped links first is_odd nodes moves k =
+    HasSides (IsPathIn (links_after_all links (take k moves))) (heads_after_all (record { even = first; odd = first }) (take k moves)) is_odd nodes k

@@ -51,7 +51,7 @@ pub fn unzip(
     Ok(moves)
 }
 
-// Where the link stands that leads out of what each side has passed for good.
+// Where the link is that leads out of what each side has passed for good.
 #[derive(Drop)]
 struct Ends {
     even: Place,

@@ -6,8 +6,8 @@
 //!
 //! Each node is even or odd. Unzipping begins with two heads that both lead to the first node, and
 //! goes along the chain. At each node the side to which it does not belong is led past it: the last
-//! link of that side, or its head while it has no node yet, gets the node behind. Below, even nodes
-//! are `(a)` and odd ones `[b]`, and what a side has passed for good stands left of the bar.
+//! link of that side, or its head while it has no node yet, gets the node after it. Below, even nodes
+//! are `(a)` and odd ones `[b]`, and what a side has passed for good is left of the bar.
 //!
 //! ```text
 //!   the chain        (3) -> [2] -> (1) -> [0]
@@ -20,10 +20,10 @@
 //! ```
 //!
 //! After each move each side still meets all of its own nodes, and from some node on those of the
-//! other too. Who stood on a node that a side was led past finds the rest of the chain from there,
+//! other too. Who was on a node that a side was led past finds the rest of the chain from there,
 //! since the link of that node was not changed by the move.
 //!
-//! Joining is one move: the odd chain is put behind the last even node, or at the even head where
+//! Joining is one move: the odd chain is put after the last even node, or at the even head where
 //! there is none. Who reads the odd chain still finds all of it.
 //!
 //! ```text
@@ -31,12 +31,17 @@
 //!   Link(1) to 2     even: 3 1 2 0              odd: 2 0
 //! ```
 //!
-//! Here the chains are slices of links, as in `chain_core`, and calls come one after the other.
+//! The functions here take the chains as slices of links, as in `chain_core`, and calls come one after
+//! the other. What one move makes of both paths is a law over any function that gives the next nodes
+//! (`move_laws`), such as the words of a table. The contract of `unzip` follows from it, move by move.
+//! The chain above is worked out by hand (`worked_moves`).
 #![tactic(auto)]
 
 pub mod grow;
+pub mod move_laws;
 pub mod moves;
 pub mod shrink;
+pub mod worked_moves;
 
 pub use grow::unzip;
 pub use moves::{Heads, Move, Place, apply};

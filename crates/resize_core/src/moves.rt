@@ -9,7 +9,7 @@ pub struct Heads {
     pub odd: Option<u32>,
 }
 
-/// Where a link to a next node stands.
+/// Where a link to a next node is.
 #[derive(Clone, Copy, Debug, PartialEq, Eq)]
 pub enum Place {
     /// The head of the even chain.

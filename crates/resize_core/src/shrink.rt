@@ -4,8 +4,8 @@ ghost use Rattle.chain_core.specs.Path.{IsPathIn};
 ghost use Rattle.chain_core.specs.Faults.{IsFaultOf, IsRefused};
 ghost use Rattle.chain_core.specs.declared.chain.PathFault.{PathFault};
 ghost use Rattle.chain_core.specs.declared.chain.PathFault.TheVariants.{OutOfMemory};
+ghost use Rattle.resize_core.specs.Moves as moves;
 ghost use Rattle.resize_core.specs.Moves.{IsPlaceIn, links_after_all, heads_after_all};
-ghost use Rattle.resize_core.specs.Join as join;
 ghost use Rattle.resize_core.specs.Join.{joining, ShareNone};
 ghost use Rattle.resize_core.specs.declared.moves.Place.TheVariants.{EvenHead};
 
@@ -13,7 +13,7 @@ use crate::moves::{Heads, Move, Place};
 use chain_core::{PathFault, path};
 use std::alloc::Global;
 
-/// The one move that puts the odd chain behind the even one: at the link of the last even node, or at
+/// The one move that puts the odd chain after the even one: at the link of the last even node, or at
 /// the even head where the even chain is empty. Its faults are those of the two paths, the even one
 /// first. Two chains that share a node have their ends in common, and then the move makes a loop.
 pub fn join(alloc: Global, next: &[Option<u32>], heads: Heads) -> Result<Vec<Move>, PathFault>
@@ -45,9 +45,9 @@ pub fn join(alloc: Global, next: &[Option<u32>], heads: Heads) -> Result<Vec<Mov
     Ok(moves)
 }
 
-// Where the link stands that leads behind the even chain of these nodes.
+// Where the link is that leads out of the even chain of these nodes.
 fn end_of(nodes: &[u32]) -> Place
-    ensures value { result ≡ join.end_of EvenHead nodes.now }
+    ensures value { result ≡ moves.end_of EvenHead nodes.now }
 {
     match nodes.last() {
         None => Place::EvenHead,

@@ -1,3 +1,4 @@
 pub mod Graces
 pub mod States
 pub mod Runs
+pub mod Waiting

@@ -2,3 +2,4 @@ pub mod Sections
 pub mod Sound
 pub mod Checks
 pub mod Steps
+pub mod Words

@@ -22,12 +22,20 @@
 //! The first grace period waits for reader 0 alone, since reader 1 had left before it began and came
 //! back later. The second waits for both.
 //!
-//! This is the plain form, in which calls come one after the other. What a grace period waits for is
-//! said in contracts by sets of readers (`specs/Sections.antt`); the comparison of counters is how it
-//! is computed.
+//! `Sections` is the plain form, in which calls come one after the other. What a grace period waits for
+//! is said in contracts by sets of readers (`specs/Sections.antt`); the comparison of counters is how
+//! it is computed.
+//!
+//! In a table each reader has a section word: 0 while its section is closed, else the counter that it
+//! loaded, which is even, with bit 0 set. `waits_for` is the one comparison of such a word with the
+//! raised counter. Its laws (`word_laws`) are about any function from seats to sections, and say that
+//! the comparison in `Sections` is this one.
 #![tactic(auto)]
 
 pub mod laws;
 pub mod sections;
+pub mod word_laws;
+pub mod words;
 
 pub use sections::{PlainCheck, PlainGrace, Sections, Spent};
+pub use words::waits_for;

@@ -1,8 +1,9 @@
-use Rattle.std.proofs.Common.{true, false, Some, subst, sym, inl, inr, set}
+use Rattle.std.proofs.Common.{true, false, Some, subst, sym, inl, inr, set, length}
 use Rattle.chain_core.specs.Path.{IsPathIn, next_in}
 use Rattle.chain_core.specs.Faults.{IsFaultOf}
 use Rattle.chain_core.specs.declared.chain.PathFault.TheVariants.{Outside, Loop}
-use Rattle.chain_core.proofs.Links.{path_in_one, no_path_fault, fault_one}
+use Rattle.chain_core.proofs.Links.{path_in_one}
+use Rattle.chain_core.proofs.Faults.{no_path_fault, fault_one}
 use Rattle.chain_core.proofs.Walked.{Walk, walk_on, path_of, walk_outside, walk_met, mark_read}
 use Rattle.chain_core.proofs.chain.path.Goals as goal
 
@@ -22,25 +23,25 @@ pub returns-then-index-next-clause-fault : goal.returns-then-index-next-clause-f
 returns-then-index-next-clause-fault c = inr (outside c)
 
 pub returns-then-index-next-clause-found : goal.returns-then-index-next-clause-found
-returns-then-index-next-clause-found c nodes is = absurd (no_path_fault c.args.next.now c.args.first nodes (Outside c.in-Some.node) is (outside c))
+returns-then-index-next-clause-found c nodes is = absurd (no_path_fault (next_in c.args.next.now) (length c.args.next.now) c.args.first nodes (Outside c.in-Some.node) is (outside c))
 
 pub returns-then-index-next-clause-refused : goal.returns-then-index-next-clause-refused
-returns-then-index-next-clause-refused c fault is = inl (fault_one c.args.next.now c.args.first (Outside c.in-Some.node) fault (outside c) is)
+returns-then-index-next-clause-refused c fault is = inl (fault_one (next_in c.args.next.now) (length c.args.next.now) c.args.first (Outside c.in-Some.node) fault (outside c) is)
 
 pub returns-then-index-clause-fault : goal.returns-then-index-clause-fault
 returns-then-index-clause-fault c = inr (met c)
 
 pub returns-then-index-clause-found : goal.returns-then-index-clause-found
-returns-then-index-clause-found c nodes is = absurd (no_path_fault c.args.next.now c.args.first nodes (Loop c.in-Some.node) is (met c))
+returns-then-index-clause-found c nodes is = absurd (no_path_fault (next_in c.args.next.now) (length c.args.next.now) c.args.first nodes (Loop c.in-Some.node) is (met c))
 
 pub returns-then-index-clause-refused : goal.returns-then-index-clause-refused
-returns-then-index-clause-refused c fault is = inl (fault_one c.args.next.now c.args.first (Loop c.in-Some.node) fault (met c) is)
+returns-then-index-clause-refused c fault is = inl (fault_one (next_in c.args.next.now) (length c.args.next.now) c.args.first (Loop c.in-Some.node) fault (met c) is)
 
 pub returns-clause-found : goal.returns-clause-found
 returns-clause-found c nodes is = path_in_one c.args.next.now c.args.first nodes c.loop-at.nodes.items is (whole c)
 
 pub returns-clause-refused : goal.returns-clause-refused
-returns-clause-refused c fault is = no_path_fault c.args.next.now c.args.first c.loop-at.nodes.items fault (whole c) is
+returns-clause-refused c fault is = no_path_fault (next_in c.args.next.now) (length c.args.next.now) c.args.first c.loop-at.nodes.items fault (whole c) is
 
 pub loop-at-preserved : goal.loop-at-preserved
 loop-at-preserved c =

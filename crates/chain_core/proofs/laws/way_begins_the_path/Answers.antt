@@ -1,5 +1,5 @@
-use Rattle.chain_core.proofs.Ways.{path_behind}
+use Rattle.chain_core.proofs.Ways.{path_after}
 use Rattle.chain_core.proofs.laws.way_begins_the_path.Goals as goal
 
 pub returns : goal.returns
-returns c = record { law = λ next first to met nodes way path. path_behind next first to met nodes way path }
+returns c = record { law = λ next first to met nodes way path. path_after next first to met nodes way path }

@@ -2,8 +2,8 @@ use Rattle.std.proofs.Common.{◌∷◌, [], All, length, subst, sym, ap, ◌∙
 use Rattle.chain_core.specs.Path.{IsPathIn}
 use Rattle.resize_core.specs.declared.moves.Move.{Move}
 use Rattle.resize_core.specs.declared.moves.Place.TheVariants.{EvenHead}
-use Rattle.resize_core.specs.Moves.{IsPlaceIn, links_after_all, heads_after_all}
-use Rattle.resize_core.specs.Join.{end_of, joining}
+use Rattle.resize_core.specs.Moves.{IsPlaceIn, end_of, links_after_all, heads_after_all}
+use Rattle.resize_core.specs.Join.{joining}
 use Rattle.resize_core.proofs.Joins.{joined, joining_in, one_more}
 use Rattle.resize_core.proofs.shrink.join.Goals as goal
 
