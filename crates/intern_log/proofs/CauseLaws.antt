@@ -8,10 +8,10 @@ use Rattle.intern_log.specs.declared.event.What.TheVariants.{Create, Take, Found
 use Rattle.intern_log.specs.Own.{is_visible, is_gain, is_loss}
 use Rattle.intern_log.specs.Now.{Phase, Vacant, Claimed, Linked, Unlinked, Now, changed_by, now_after_event}
 use Rattle.intern_log.specs.Lawful.{MayFree, MayFollow}
-use Rattle.intern_log.specs.Orderly.{ends_lock, some_ends_lock, IsLockedBy}
+use Rattle.intern_log.specs.Orderly.{ends_lock, some_ends_lock, IsLockedAt}
 use Rattle.intern_log.specs.SlotBuckets.{bucket_now, phase_bucket, IsUnlinkOn}
 use Rattle.intern_log.specs.Touches.{is_level}
-use Rattle.intern_log.specs.CauseEvents.{IsVisibleOn, IsCreateOn, IsCreateUnlinkOrLockOn, IsCreateLockOrUnlockOn, IsLockedAt, JoinsChain, LeavesChain}
+use Rattle.intern_log.specs.CauseEvents.{IsVisibleOn, IsCreateOn, IsCreateUnlinkOrLockOn, IsCreateLockOrUnlockOn, JoinsChain, LeavesChain}
 use Rattle.intern_log.proofs.Handles.{handle_eq-Decides}
 use Rattle.std.proofs.lemmas.List.Folds.{list_any-append}
 use Rattle.intern_log.specs.Touches.{touches_lock}
@@ -194,13 +194,6 @@ by_create_lock_or_unlock table now e row bucket may other = (
   where
     unlike : None ≡ Some e.seat → ⊥
     unlike none = absurd (cc)
-
--- a lock has a place
-pub locked_somewhere : (log : List Event) (row bucket k : ℕ) → IsLockedBy log row bucket k ↔ ((place : ℕ) × IsLockedAt log row bucket k place)
-locked_somewhere log row bucket k = (
-  (λ (front, back, is, kept). (length front, (front, back, is, refl, kept))),
-  (λ (place, (front, back, is, at, kept)). (front, back, is, kept)),
-)
 
 pub never_locked : (row bucket k place : ℕ) → ¬ (IsLockedAt [] row bucket k place)
 never_locked row bucket k place ([], back, is, at, kept) = absurd (cc)

@@ -83,8 +83,9 @@ pub lock_was_taken : (table : TableKind) (row bucket k : ℕ) (done rest : List 
 lock_was_taken table row bucket k = carried table (λ done now. now.lock row bucket ≡ Some k → IsLockedBy done row bucket k) (λ done now e may tie.
     lock_after (λ lock. lock ≡ Some k → IsLockedBy (done ++ e ∷ []) row bucket k) table now e.seat e.what row bucket may
     (λ kept is. let was = tie is in
-    (was.0, was.1 ++ e ∷ [], pushed was.0 was.1 k (Lock row bucket) e done was.2, still_none (λ (x : Event). ends_lock row bucket x.what) was.1 e was.3 kept))
-    (λ made none is. (done, [], event_is e k (Lock row bucket) made (one_seat e.seat k is) done, refl))
+    let at = was.1 in
+    (was.0, (at.0, at.1 ++ e ∷ [], pushed at.0 at.1 k (Lock row bucket) e done at.2, at.3, still_none (λ (x : Event). ends_lock row bucket x.what) at.1 e at.4 kept)))
+    (λ made none is. (length done, (done, [], event_is e k (Lock row bucket) made (one_seat e.seat k is) done, refl, refl)))
     (λ ended is. absurd (cc)))
 
 pub free_has_none : (o : Option Resizing) (k : ℕ) → o ≡ None → owner_of o ≡ Some k → ⊥
@@ -184,7 +185,7 @@ owner_is table now log k allowed (front, back, is, kept) =
     ∙ owned_until_given table taken back k refl (IsAllowedFrom-rest table now front _ whole).1 kept
 
 pub lock_is : (table : TableKind) (now : Now) (log : List Event) (row bucket k : ℕ) → IsAllowedFrom table now log → IsLockedBy log row bucket k → (now_after now log).lock row bucket ≡ Some k
-lock_is table now log row bucket k allowed (front, back, is, kept) =
+lock_is table now log row bucket k allowed (place, (front, back, is, at, kept)) =
     let whole = subst (IsAllowedFrom table now) is allowed in
     let locked = now_after_event (now_after now front) (record { seat = k; what = Lock row bucket }) in
     let there : locked.lock row bucket ≡ Some k = locked_there (now_after now front).lock row bucket k in

@@ -1,13 +1,11 @@
--- Events on one handle or on one bucket, events by others, and locks with their places: what may come in the way of a caller.
-use Rattle.std.specs.Prelude.{◌≡◌, ℕ, false, List, length, Some, ◌⊎◌}
+-- Events on one handle or on one bucket, and events by others: what may come in the way of a caller.
+use Rattle.std.specs.Prelude.{◌≡◌, ℕ, false, List, Some, ◌⊎◌}
 use Rattle.intern_log.specs.declared.event.Handle.{Handle}
 use Rattle.intern_log.specs.declared.event.Event.{Event}
 use Rattle.intern_log.specs.declared.event.What.{What}
 use Rattle.intern_log.specs.declared.event.What.TheVariants.{Create, Take, Found, Drop, Perm, Kill, Lock, Unlock}
 use Rattle.intern_log.specs.Own.{is_among}
 use Rattle.intern_log.specs.Now.{Now, now_after_event}
-use Rattle.intern_log.specs.Orderly.{some_ends_lock}
-use Rattle.intern_log.specs.Sections.{with_event}
 use Rattle.intern_log.specs.SlotBuckets.{bucket_now, phase_bucket, IsUnlinkOn}
 
 -- the event interns the text as the handle: it creates the entry, takes it or finds it
@@ -33,10 +31,6 @@ IsCreateLockOrUnlockOn now row bucket what = IsCreateOn now row bucket what ⊎ 
 -- the event is by another number than these
 abbrev pub IsByOther : List ℕ → Event → Type 0
 IsByOther numbers e = is_among numbers e.seat ≡ false
-
--- the number has locked the bucket at this place, and nothing ended its lock since
-abbrev pub IsLockedAt : List Event → ℕ → ℕ → ℕ → ℕ → Type 0
-IsLockedAt log row bucket k place = (front back : List Event) × (log ≡ with_event front k (Lock row bucket) back) × (length front ≡ place) × (some_ends_lock row bucket back ≡ false)
 
 -- a slot is in the bucket's chain after the event and was not before; both by the hash of the place before it
 abbrev pub JoinsChain : Now → Event → ℕ → ℕ → Type 0

@@ -46,9 +46,12 @@ some_ends_lock row bucket log = list_any (λ (e : Event). ends_lock row bucket e
 abbrev pub HasResizeLock : List Event → ℕ → Type 0
 HasResizeLock log k = (front back : List Event) × (log ≡ with_event front k ResizeTaken back) × (list_any (λ (e : Event). is_resize_given e.what) back ≡ false)
 
--- the number has locked the bucket, and nothing ended its lock since
+-- the number has locked the bucket at the place, and nothing ended its lock since
+abbrev pub IsLockedAt : List Event → ℕ → ℕ → ℕ → ℕ → Type 0
+IsLockedAt log row bucket k place = (front back : List Event) × (log ≡ with_event front k (Lock row bucket) back) × (length front ≡ place) × (some_ends_lock row bucket back ≡ false)
+
 abbrev pub IsLockedBy : List Event → ℕ → ℕ → ℕ → Type 0
-IsLockedBy log row bucket k = (front back : List Event) × (log ≡ with_event front k (Lock row bucket) back) × (some_ends_lock row bucket back ≡ false)
+IsLockedBy log row bucket k = (place : ℕ) × IsLockedAt log row bucket k place
 
 -- the level that an event leaves, and that of the last Level, or the one before the log where there is none
 abbrev pub level_after_event : ℕ → What → ℕ

@@ -9,9 +9,9 @@ ghost use Rattle.intern_log.specs.declared.event.What.TheVariants.{Lock};
 ghost use Rattle.intern_log.specs.Own.{is_visible, is_gain, is_loss};
 ghost use Rattle.intern_log.specs.Now.{Now, now_after_event};
 ghost use Rattle.intern_log.specs.Lawful.{MayFollow};
-ghost use Rattle.intern_log.specs.Orderly.{ends_lock, IsLockedBy};
+ghost use Rattle.intern_log.specs.Orderly.{ends_lock, IsLockedAt};
 ghost use Rattle.intern_log.specs.Touches.{is_level};
-ghost use Rattle.intern_log.specs.CauseEvents.{IsVisibleOn, IsCreateUnlinkOrLockOn, IsCreateLockOrUnlockOn, IsLockedAt, JoinsChain, LeavesChain};
+ghost use Rattle.intern_log.specs.CauseEvents.{IsVisibleOn, IsCreateUnlinkOrLockOn, IsCreateLockOrUnlockOn, JoinsChain, LeavesChain};
 
 /// Callers see an event exactly where it is on a handle.
 pub fn visible_events_are_on_a_handle()
@@ -48,11 +48,6 @@ pub fn create_lock_or_unlock_on_a_bucket()
         IsCreateLockOrUnlockOn now row bucket e.what ↔ (JoinsChain now e row bucket ⊎ ¬ ((now_after_event now e).lock row bucket ≡ now.lock row bucket)) }
 {}
 
-/// A bucket is locked by a number exactly where it is locked by it at some place.
-pub fn locks_have_a_place()
-    ensures law { (log : List Event) (row bucket k : ℕ) → IsLockedBy log row bucket k ↔ ((place : ℕ) × IsLockedAt log row bucket k place) }
-{}
-
 /// No bucket is locked before the first event.
 pub fn no_lock_at_first()
     ensures law { (row bucket k place : ℕ) → ¬ (IsLockedAt [] row bucket k place) }
@@ -77,7 +72,6 @@ mod tests {
         losses_are_on_their_handle();
         create_unlink_or_lock_on_a_bucket();
         create_lock_or_unlock_on_a_bucket();
-        locks_have_a_place();
         no_lock_at_first();
         locks_by_one_more_event();
     }
