@@ -1,5 +1,5 @@
 -- The grown log is lawful, and says which row is being replaced.
-use Rattle.std.proofs.Common.{◌≡◌, ℕ, Bool, true, false, [], take, drop, Some, inl, refl, sym, ap, ◌∙◌}
+use Rattle.std.proofs.Common.{◌≡◌, ℕ, Bool, true, false, [], take, drop, inl, refl, sym, ap, ◌∙◌}
 use native.Mathlib.Omega.{arith}
 use Rattle.intern_log.specs.Now.{Resizing}
 use Rattle.intern_log.specs.Lawful.{IsLawful}
@@ -7,16 +7,13 @@ use Rattle.intern_log.specs.Orderly.{IsBeingReplaced}
 use Rattle.intern_log.specs.GrownLog.{grown_table, grown_log, not_yet_replacing, replacing_row_3}
 use Rattle.intern_log.proofs.LawfulLaws.{IsLawful-prefix}
 use Rattle.intern_log.proofs.WorkedLogLaws.{all_fresh}
-use Rattle.intern_log.proofs.Replacing.{replaced_is}
+use Rattle.intern_log.proofs.Replacing.{one_resizing, replaced_is}
 
 pub grown_is_lawful : IsLawful grown_table grown_log
 grown_is_lawful = record {
   allowed = ((refl, omega arith), (refl, (refl, (refl, (refl, (((replacing_row_3, refl, refl), inl refl, omega arith, omega arith), (((replacing_row_3, refl, refl), (λ s place is. absurd (cc))), tt)))))));
   fresh = all_fresh grown_log [] refl tt;
 }
-
-one_resizing : (r s : Resizing) → Some r ≡ Some s → r ≡ s
-one_resizing r s is = cc
 
 pub none_is_being_replaced : (row : ℕ) → ¬ (IsBeingReplaced 3 (take 4 grown_log) row)
 none_is_being_replaced row replaced =

@@ -42,6 +42,10 @@ event_is e k what made at done = ap (λ w. done ++ record { seat = e.seat; what 
 one_seat : (a b : ℕ) → Some a ≡ Some b → a ≡ b
 one_seat a b is = cc
 
+-- the place after one more event
+pub place_next : (done : List Event) (now : Now) (e : Event) → now.place ≡ length done → (now_after_event now e).place ≡ length (done ++ e ∷ [])
+place_next done now e was = let longer = length-append done (e ∷ []) in omega (arith, longer, was)
+
 -- the place, and the open section of a number with the Open that it comes from
 record Opened (k : ℕ) (done : List Event) (now : Now) : Type 0 where
   place : now.place ≡ length done
@@ -52,7 +56,7 @@ same_section a b is = cc
 
 opened_next : (table : TableKind) (k : ℕ) (done : List Event) (now : Now) (e : Event) → MayFollow table now e.seat e.what → Opened k done now → Opened k (done ++ e ∷ []) (now_after_event now e)
 opened_next table k done now e may tie = record {
-  place = let longer = length-append done (e ∷ []) in let was = tie.place in omega (arith, longer, was);
+  place = place_next done now e tie.place;
   was = λ o. section_after (λ section. section ≡ Some o → IsOpenAs (done ++ e ∷ []) k o.place o.counter) table now e.seat e.what k may
       (λ unclosed is. let was = tie.was o is in
       (was.0, was.1 ++ e ∷ [], pushed was.0 was.1 k (Open o.counter) e done was.2, was.3, still_none (λ (x : Event). closes k x.seat x.what) was.1 e was.4 unclosed))

@@ -1,9 +1,7 @@
 -- The level, the place after the last Level, and the row that is being replaced.
 use Rattle.std.proofs.Common.{◌≡◌, ℕ, ◌+◌, Bool, true, false, ◌||◌, List, [], ◌∷◌, ◌++◌, length, ◌⊎◌, ◌↔◌, Option, Some, None, inl, inr, refl, sym, ap, subst, ◌∙◌}
-use native.Mathlib.Omega.{arith}
 use Rattle.std.specs.List.{list_any}
 use Rattle.std.specs.Option.{option_map}
-use Rattle.std.proofs.lemmas.List.{length-append}
 use Rattle.std.proofs.lemmas.List.Folds.{list_any-append}
 use Rattle.intern_log.specs.declared.event.Event.{Event}
 use Rattle.intern_log.specs.declared.event.What.{What}
@@ -17,7 +15,7 @@ use Rattle.intern_log.specs.Touches.{is_level}
 use Rattle.intern_log.proofs.LawfulLaws.{IsAllowedFrom-rest}
 use Rattle.intern_log.proofs.Slots.{neither}
 use Rattle.intern_log.proofs.Graced.{said}
-use Rattle.intern_log.proofs.OrderlyLaws.{carried, pushed, still_none, event_is, level-event, level_is}
+use Rattle.intern_log.proofs.OrderlyLaws.{carried, pushed, still_none, event_is, place_next, level-event, level_is}
 use Rattle.intern_log.proofs.OneMore.{place_is}
 use Rattle.intern_log.proofs.Stays.{since_unchanged}
 
@@ -82,7 +80,7 @@ ResizingFrom now seat what s =
     ((what ≡ ResizeTaken) × (record { seat = seat; place = now.place; level = now.level; replacing = false } ≡ s))
     ⊎ ((r : Resizing) × (now.resizing ≡ Some r) × (is_resize_given what ≡ false) × (marked_by r (locks_other_row r.seat r.level seat what) ≡ s))
 
-one_resizing : (r s : Resizing) → Some r ≡ Some s → r ≡ s
+pub one_resizing : (r s : Resizing) → Some r ≡ Some s → r ≡ s
 one_resizing r s is = cc
 
 from_lock : (seat row : ℕ) (o : Option Resizing) (s : Resizing) → option_map (resizing_after_lock seat row) o ≡ Some s → (r : Resizing) × (o ≡ Some r) × (resizing_after_lock seat row r ≡ s)
@@ -108,7 +106,7 @@ level_after-append level (x ∷ xs) ys = level_after-append (level_after_event l
 tied_next : (table : TableKind) (min_level : ℕ) (done : List Event) (now : Now) (e : Event) → MayFollow table now e.seat e.what → Tied min_level done now →
     Tied min_level (done ++ e ∷ []) (now_after_event now e)
 tied_next table min_level done now e may tied = record {
-  place = let longer = length-append done (e ∷ []) in let was = tied.place in omega (arith, longer, was);
+  place = place_next done now e tied.place;
   level = level-event now e.seat e.what ∙ ap (λ l. level_after_event l e.what) tied.level ∙ sym (level_after-append min_level done (e ∷ []));
   taken = λ s is. elim (resizing_from now e.seat e.what s is) [
     | inl new ↦ subst (IsTakenAs min_level (done ++ e ∷ [])) new.1

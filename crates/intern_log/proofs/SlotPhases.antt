@@ -1,8 +1,6 @@
 -- The phase of a slot, in the log's own words.
 use Rattle.std.proofs.Common.{◌≡◌, ℕ, Bool, true, false, cond, List, [], ◌∷◌, ◌++◌, length, ◌↔◌, refl, sym, ap, subst, ◌∙◌}
-use native.Mathlib.Omega.{arith}
 use Rattle.std.proofs.lemmas.Bool.Decides.{Decides-eqb}
-use Rattle.std.proofs.lemmas.List.{length-append}
 use Rattle.intern_log.specs.declared.event.Handle.{Handle}
 use Rattle.intern_log.specs.declared.event.Event.{Event}
 use Rattle.intern_log.specs.declared.event.What.{What}
@@ -15,7 +13,7 @@ use Rattle.intern_log.proofs.LawfulLaws.{IsAllowedFrom-rest}
 use Rattle.intern_log.proofs.Slots.{slot_after, neither, linked_until_unlink}
 use Rattle.intern_log.proofs.Graced.{put_there, said, taken_is, not_vacant_is_taken}
 use Rattle.intern_log.proofs.OneMore.{place_is}
-use Rattle.intern_log.proofs.OrderlyLaws.{carried, pushed, still_none, event_is, unlinked_is}
+use Rattle.intern_log.proofs.OrderlyLaws.{carried, pushed, still_none, event_is, place_next, unlinked_is}
 
 -- what the log says of a slot in this phase; nothing here of a vacant one
 abbrev SaysOf : List Event → ℕ → Phase → Type 0
@@ -72,7 +70,7 @@ record Tied (s : ℕ) (done : List Event) (now : Now) : Type 0 where
 
 tied_next : (table : TableKind) (s : ℕ) (done : List Event) (now : Now) (e : Event) → MayFollow table now e.seat e.what → Tied s done now → Tied s (done ++ e ∷ []) (now_after_event now e)
 tied_next table s done now e may tied = record {
-  place = let longer = length-append done (e ∷ []) in let was = tied.place in omega (arith, longer, was);
+  place = place_next done now e tied.place;
   says = slot_after (λ phase. (changed_by now e.seat e.what).slot s ≡ phase → SaysOf (done ++ e ∷ []) s phase) table now e.seat e.what s may
       (λ unfreed linked is. says-push table s done now e (now.slot s) may unfreed linked refl is tied.says)
       (λ text h made at claimed is. (done, [], e.seat, event_is e e.seat (Create text h) made refl done, sym tied.place, at, refl, refl))
