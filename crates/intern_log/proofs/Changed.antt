@@ -4,10 +4,10 @@ use native.Mathlib.Omega.{arith}
 use Rattle.std.specs.Prelude.{nat_eq}
 use Rattle.std.proofs.lemmas.Bool.Decides.{Decides-eqb}
 use Rattle.intern_log.specs.declared.event.What.{What}
-use Rattle.intern_log.specs.declared.event.What.TheVariants.{Create, Claim, Free, Open, Close, Grace, Lock, Unlock, Unlink, ResizeTaken, ResizeGiven, Level}
+use Rattle.intern_log.specs.declared.event.What.TheVariants.{Create, Claim, Free, Open, Close, Grace, Lock, Unlock, Unlink, ResizeTaken, ResizeGiven, Level, Rehash}
 use Rattle.intern_log.specs.Now.{Phase, Vacant, Claimed, Linked, Unlinked, Resizing, Now, owner_of, opening, changed_by}
 use Rattle.intern_log.specs.Orderly.{is_grace}
-use Rattle.intern_log.specs.Touches.{touches_slot, touches_section, touches_lock, touches_owner, touches_resizing, is_level}
+use Rattle.intern_log.specs.Touches.{touches_slot, touches_section, touches_lock, touches_owner, touches_resizing, is_level, is_rehash}
 use Rattle.intern_log.proofs.Handles.{both_hold}
 
 -- a choice by a test that answers true
@@ -96,6 +96,10 @@ since_changed seat _ is = absurd (cc)
 pub graces_changed : (seat : ℕ) (what : What) → is_grace what ≡ true → (now : Now) × ¬ ((changed_by now seat what).graces ≡ now.graces)
 graces_changed seat Grace is = (opening 0, (λ same. let no : 1 ≡ 0 = same in absurd (omega (arith, no))))
 graces_changed seat _ is = absurd (cc)
+
+pub seed_changed : (seat : ℕ) (what : What) → is_rehash what ≡ true → (now : Now) × ¬ ((changed_by now seat what).seed ≡ now.seed)
+seed_changed seat (Rehash n) is = (record (opening 0) { seed = n + 1 }, (λ same. let no : n ≡ n + 1 = same in absurd (omega (arith, no))))
+seed_changed seat _ is = absurd (cc)
 
 -- which events touch a lock, in other words
 touches_by : (row bucket : ℕ) (what : What) → touches_lock row bucket what ≡ true → (what ≡ Lock row bucket) ⊎ (what ≡ Unlock row bucket) ⊎ ((level : ℕ) × (what ≡ Level level) × ¬ (level ≡ row))

@@ -112,7 +112,7 @@ abbrev pub creates : What → Handle → Bool
 creates (Create text h) k = handle_eq h k
 creates _ k = false
 
--- no handle stands in two Creates
+-- no handle is in two Creates
 abbrev pub IsFresh : List Event → Type 0
 IsFresh [] = Unit {0}
 IsFresh (e ∷ es) = ((h : Handle) → creates e.what h ≡ true → list_any (λ later. creates later.what h) es ≡ false) × IsFresh es

@@ -119,7 +119,7 @@ pub record IsOrderly (table : TableKind) (log : List Event) : Type 0 where
   pub level_by_one : (front back : List Event) (k level : ℕ) → log ≡ with_event front k (Level level) back →
       (level ≡ level_after table.min_level front + 1) ⊎ (level_after table.min_level front ≡ level + 1)
   pub level_within : (front back : List Event) (k level : ℕ) → log ≡ with_event front k (Level level) back → (table.min_level ≤ level) × (level ≤ table.max_level)
-  -- Take, Drop and Perm stand in Counted logs alone, Found and Kill in Weak logs alone
+  -- Take, Drop and Perm are in Counted logs alone, Found and Kill in Weak logs alone
   pub takes : (front back : List Event) (k : ℕ) (text : List ℕ) (h : Handle) → log ≡ with_event front k (Take text h) back → table.kind ≡ Counted
   pub drops : (front back : List Event) (k : ℕ) (h : Handle) → log ≡ with_event front k (Drop h) back → table.kind ≡ Counted
   pub perms : (front back : List Event) (k : ℕ) (h : Handle) → log ≡ with_event front k (Perm h) back → table.kind ≡ Counted

@@ -13,7 +13,7 @@ Begins before after = (rest : List Event) × (after ≡ before ++ rest)
 abbrev pub IsPlaceOf : List Event → List Event → List Event → Type 0
 IsPlaceOf before after done = Begins before done × Begins done after
 
--- the event stands in the window, behind what was logged up to there
+-- the event is in the window, right after what was logged up to there
 abbrev pub StandsIn : List Event → List Event → List Event → Event → Type 0
 StandsIn before after done e = Begins before done × Begins (done ++ e ∷ []) after
 

@@ -6,7 +6,7 @@ ghost use Rattle.intern_log.specs.declared.event.What.{What};
 ghost use Rattle.intern_log.specs.declared.event.What.TheVariants.{Lock, Unlock, Level};
 ghost use Rattle.intern_log.specs.Now.{Now, owner_of, now_after_event};
 ghost use Rattle.intern_log.specs.Orderly.{is_grace};
-ghost use Rattle.intern_log.specs.Touches.{touches_slot, touches_section, touches_lock, touches_owner, touches_resizing, is_level};
+ghost use Rattle.intern_log.specs.Touches.{touches_slot, touches_section, touches_lock, touches_owner, touches_resizing, is_level, is_rehash};
 
 /// A Create, Claim, Free or Unlink of a slot changes its phase somewhere.
 pub fn slot_changes()
@@ -62,6 +62,12 @@ pub fn graces_change()
         (now : Now) × ¬ ((now_after_event now (record { seat = seat; what = what })).graces ≡ now.graces) }
 {}
 
+/// A Rehash changes the seed somewhere.
+pub fn seed_changes()
+    ensures law { (seat : ℕ) (what : What) → is_rehash what ≡ true →
+        (now : Now) × ¬ ((now_after_event now (record { seat = seat; what = what })).seed ≡ now.seed) }
+{}
+
 #[cfg(test)]
 mod tests {
     use super::*;
@@ -77,5 +83,6 @@ mod tests {
         level_changes();
         since_changes();
         graces_change();
+        seed_changes();
     }
 }

@@ -1,10 +1,10 @@
 //! Texts, handles and the events of a table, and what a list of events stands for.
 //!
-//! A table interns texts: equal texts have one handle while they are live. Whatever its callers do,
-//! in whatever order their steps fall, is told by one list of events, the table's **log**. Here stand
-//! the types of an event, and the definitions by which a log is read: the map from texts to entries
-//! that it stands for, which events that map allows, and which events are a caller's own. They know
-//! nothing of buckets, chains or words.
+//! A table interns texts: equal texts have one handle while they are live. Whatever its callers do, in
+//! whatever order their steps fall, makes one list of events, the table's **log**. Here are the types of an
+//! event, and the definitions by which a log is read: the map from texts to entries that it stands for, which
+//! events that map allows, which logs of a table are lawful, and which events are a caller's own. They know
+//! of slots, sections, locks and buckets by their events alone, and nothing of chains or words.
 //!
 //! A [`Replay`] is that map in code: it tells whether the map allows an event, and goes on by one that
 //! is allowed. [`first_fault`] finds the first event of a list that the map before it does not allow.

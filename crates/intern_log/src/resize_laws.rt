@@ -1,4 +1,4 @@
-//! Laws of the level and of a row that is being replaced: what the log's words say of them is what stands in `Now`.
+//! Laws of the level and of a row that is being replaced: what the log's words say of them is what `Now` has.
 //! Each function does nothing: its contract is the law.
 ghost use Rattle.std.specs.Prelude.{◌≡◌, ℕ, ◌+◌, ◌↔◌, true, false, List, Some, length};
 ghost use Rattle.std.specs.List.{list_any};

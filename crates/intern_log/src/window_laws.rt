@@ -45,13 +45,13 @@ pub fn places_of_two_pieces()
         IsPlaceOf before after done ↔ (IsPlaceOf before middle done ⊎ IsPlaceOf middle after done) }
 {}
 
-/// An event that stands in a window follows a front of what is in it.
+/// An event of a window follows a front of what is in it.
 pub fn events_of_a_window()
     ensures law { (before after done : List Event) (e : Event) →
         StandsIn before after done e ↔ ((seen rest : List Event) × (after ≡ before ++ seen ++ e ∷ rest) × (done ≡ before ++ seen)) }
 {}
 
-/// In a window whose ends are one no event stands.
+/// A window whose ends are one has no event.
 pub fn no_event_in_a_window_of_one_place()
     ensures law { (log done : List Event) (e : Event) → ¬ (StandsIn log log done e) }
 {}

@@ -1,4 +1,4 @@
-//! The log that `docs/MODEL.md` works through is lawful, and says at its places what stands there.
+//! The log that `docs/MODEL.md` works through is lawful, and says at its places what is written there.
 //! Each function does nothing: its contract is the law.
 ghost use Rattle.std.specs.Prelude.{◌≡◌, ◌++◌, Some, take};
 ghost use Rattle.intern_log.specs.TextMap.{HasHandle};

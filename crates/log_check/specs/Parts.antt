@@ -20,7 +20,7 @@ phase_seen (model.Claimed seat) = Claimed seat
 phase_seen (model.Linked text h born) = Linked h
 phase_seen (model.Unlinked seat place) = Unlinked seat place
 
--- the phase of a slot after one more event, which stands at the place
+-- the phase of a slot after one more event, which is at the place
 abbrev pub phase_by : ℕ → SlotPhase → ℕ → ℕ → What → SlotPhase
 phase_by slot phase place seat (Create text h) = if nat_eq slot h.slot then Linked h else phase
 phase_by slot phase place seat (Claim s) = if nat_eq slot s then Claimed seat else phase

@@ -17,8 +17,8 @@ fn stays_lawful(table: &TableKind, before: &[Event], texts: &Replay, event: &Eve
     may_follow(table, before, texts, event) && !is_repeated(before, event)
 }
 
-/// The first place at which a list of events is no lawful log of such a table, counted from 0: what
-/// stands before it is one, and with its event it is one no longer. `None` comes exactly for a lawful
+/// The first place at which a list of events is no lawful log of such a table, counted from 0: the
+/// events before it are one, and with its event they are one no longer. `None` comes exactly for a lawful
 /// log. Only want of memory fails, and only a Create up to which the list is lawful takes memory.
 pub fn first_unlawful(
     alloc: Global,

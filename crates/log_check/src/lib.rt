@@ -1,13 +1,13 @@
 //! Whether a list of events is a lawful log of a table.
 //!
-//! A lawful log is defined in `intern_log`: each event may follow what stands before it, and no handle
-//! is created twice. Here that definition is a program. It is for tests, and for a reader who would
-//! rather run the definition than read it; it is not made for speed.
+//! A lawful log is defined in `intern_log`: each event may follow the events before it, and no handle is
+//! created twice. Here that definition is a program. It is for tests, and for a reader who would rather run
+//! the definition than read it. It is not made for speed.
 //!
-//! Nothing but the map of the live texts is kept from one event to the next. What else an event asks,
-//! as where a slot is or who has a lock, is read from the events before it, from the first one on. So
-//! an event costs the reading of all that stands before it; a Free of a slot that was unlinked, and a
-//! ResizeGiven, read it once for each event that stands there.
+//! Nothing except the map of the live texts is kept from one event to the next. What else an event asks, as
+//! where a slot is or who has a lock, is read from the events before it, from the first one on. So an event
+//! costs the reading of all events before it. A Free of a slot that was unlinked, a ResizeGiven and a Rehash
+//! read them once for each of these events.
 //!
 //! That counts in a counted table are what its callers hold is not asked: it is a law of lawful logs.
 #![tactic(auto)]

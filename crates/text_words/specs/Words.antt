@@ -6,7 +6,7 @@ use Rattle.std.specs.List.{flat_map, range_with_len}
 abbrev pub words_of : ℕ → ℕ
 words_of bytes = (bytes + 7) / 8
 
--- word `at` of a text: the sum of byte 8 * at + j times 256 ^ j, for j from 0 through 7; behind the text there are zeros
+-- word `at` of a text: the sum of byte 8 * at + j times 256 ^ j, for j from 0 through 7; after the text there are zeros
 abbrev pub word_at : List ℕ → ℕ → ℕ
 word_at text at = sum_through (λ j. slice_index text (8 * at + j) * 256 ^ j) 7
 

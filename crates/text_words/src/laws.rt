@@ -30,14 +30,14 @@ pub fn hashes_are_below_2_32()
     ensures law { (seed : ℕ) (text : List ℕ) → seed < 2 ^ 32 → hash_of seed text < 2 ^ 32 }
 {}
 
-/// Two texts with one polynomial, `Aa` and `BB`.
+/// The polynomials of `a`, and of `Aa` and `BB`, which are one.
 pub fn polynomials_of_known_texts()
     ensures a { hash31 (97 ∷ []) ≡ 97 }
     ensures upper_then_lower { hash31 (65 ∷ 97 ∷ []) ≡ 2112 }
     ensures two_uppers { hash31 (66 ∷ 66 ∷ []) ≡ 2112 }
 {}
 
-/// By seed 1 they have different hashes.
+/// The hashes of the same texts by seed 1, which all differ.
 pub fn hashes_of_known_texts_by_seed_1()
     ensures a { hash_of 1 (97 ∷ []) ≡ 1610676000 }
     ensures upper_then_lower { hash_of 1 (65 ∷ 97 ∷ []) ≡ 1637746925 }

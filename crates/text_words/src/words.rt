@@ -1,4 +1,4 @@
-//! A text as words of 64 bits: 8 bytes a word, the lowest byte first, with zeros behind the last byte.
+//! A text as words of 64 bits: 8 bytes a word, the lowest byte first, with zeros after the last byte.
 ghost use Rattle.std.specs.Prelude.{◌≡◌, ◌+◌, ◌*◌, ◌<◌, ◌≤◌, ◌++◌, ◌↔◌, IsTrue, drop, length};
 ghost use Rattle.text_words.specs.Words.{words_of, word_at, packed_words, unpacked};
 
