@@ -364,3 +364,9 @@ held_is_live table log h counted lawful more =
       | inl alive ↦ alive
       | inr equal ↦ absurd (omega (arith, equal, more))
     ]
+
+-- the ledger at a log's end
+pub ledger_at_the_end : (log : List Event) → MeetsLedger log →
+    ((text : List ℕ) (e : Entry) → entry_of (map_of log) text ≡ Some e → e.count < 65535 → gains log e.handle ≡ losses log e.handle + e.count)
+    × ((h : Handle) → ¬ (IsLive (map_of log) h) → gains log h ≡ losses log h)
+ledger_at_the_end log meets = ((λ text e. meets.live log [] text e (sym (append-nil log))), (λ h. meets.gone log [] h (sym (append-nil log))))

@@ -4,14 +4,25 @@ ghost use Rattle.std.specs.Prelude.{◌≡◌, ℕ, ◌+◌, ◌<◌, ◌≤◌,
 ghost use Rattle.std.specs.Option.{option_map, unwrap_or};
 ghost use Rattle.intern_log.specs.declared.event.Entry.{Entry};
 ghost use Rattle.intern_log.specs.declared.event.Event.{Event};
+ghost use Rattle.intern_log.specs.declared.event.Handle.{Handle};
 ghost use Rattle.intern_log.specs.declared.event.Released.TheVariants.{Dropped, Permanent};
-ghost use Rattle.intern_log.specs.TextMap.{TextMap, no_texts, entry_of, put_at};
+ghost use Rattle.intern_log.specs.TextMap.{TextMap, no_texts, entry_of, put_at, IsLive};
 ghost use Rattle.intern_log.specs.Log.{map_of, lowered};
+ghost use Rattle.intern_log.specs.Ledger.{MeetsLedger};
+ghost use Rattle.intern_log.specs.Own.{gains, losses};
 ghost use Rattle.intern_log.specs.EntryCounts.{released_of, references_to, references_of};
 
 /// A live entry has a count from 1 to 65,535, in the map of each log.
 pub fn live_counts_are_from_1_to_65535()
     ensures law { (log : List Event) (text : List ℕ) (e : Entry) → entry_of (map_of log) text ≡ Some e → (1 ≤ e.count) × (e.count ≤ 65535) }
+{}
+
+/// At the end of a log that meets the ledger, a handle was gained as often as it was lost and is counted, below 65,535,
+/// and just as often as it was lost where it is not live.
+pub fn counts_of_a_ledger()
+    ensures law { (log : List Event) → MeetsLedger log →
+        ((text : List ℕ) (e : Entry) → entry_of (map_of log) text ≡ Some e → e.count < 65535 → gains log e.handle ≡ losses log e.handle + e.count)
+        × ((h : Handle) → ¬ (IsLive (map_of log) h) → gains log h ≡ losses log h) }
 {}
 
 /// An entry counts its holds below 65,535, and none at 65,535.
@@ -46,6 +57,7 @@ mod tests {
     #[test]
     fn laws_can_be_called() {
         live_counts_are_from_1_to_65535();
+        counts_of_a_ledger();
         holds_that_an_entry_counts();
         holds_of_no_texts();
         holds_with_one_more_text();
