@@ -32,3 +32,6 @@ pub mod RuleLaws
 pub mod Changed
 pub mod CauseLaws
 pub mod WindowHolds
+pub mod EntryLaws
+pub mod AllowedLaws
+pub mod NumberedLaws

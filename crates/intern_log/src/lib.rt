@@ -10,10 +10,13 @@
 //! is allowed. [`first_fault`] finds the first event of a list that the map before it does not allow.
 #![tactic(auto)]
 
+pub mod allowed_laws;
 pub mod bucket_laws;
 pub mod caller_laws;
 pub mod cause_laws;
 pub mod changes_laws;
+pub mod count_laws;
+pub mod entry_laws;
 pub mod event;
 pub mod event_laws;
 pub mod fault;
