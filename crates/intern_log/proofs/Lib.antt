@@ -35,3 +35,7 @@ pub mod WindowHolds
 pub mod EntryLaws
 pub mod AllowedLaws
 pub mod NumberedLaws
+pub mod RowLaws
+pub mod FirstFaults
+pub mod FinalLaws
+pub mod HeldLaws
