@@ -13,7 +13,7 @@ use Rattle.intern_log.specs.Faults.{IsFirstFault, IsNotAllowedAt, ReachesCreate}
 use Rattle.intern_log.proofs.Logs.{map_after-append, IsLegal-one_more}
 
 -- an event that the map does not allow is visible
-visible : (m : TextMap) (what : What) → (¬ (Allows m what)) → is_visible what ≡ true
+pub visible : (m : TextMap) (what : What) → (¬ (Allows m what)) → is_visible what ≡ true
 visible m (Create t h) not = refl
 visible m (Take t h) not = refl
 visible m (Found t h) not = refl

@@ -34,4 +34,10 @@ pub mod CauseLaws
 pub mod WindowHolds
 pub mod EntryCountLaws
 pub mod Membership
-pub mod ReachedLaws
+pub mod EntryLaws
+pub mod AllowedLaws
+pub mod NumberedLaws
+pub mod RowLaws
+pub mod FirstFaults
+pub mod FinalLaws
+pub mod HeldLaws

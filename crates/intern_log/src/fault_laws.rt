@@ -1,21 +1,36 @@
-//! Laws of the way to a fault: which Creates are reached on it.
+//! Laws of the first fault of a log, and of the Creates that a log reaches.
 //! Each function does nothing: its contract is the law.
-ghost use Rattle.std.specs.Prelude.{◌≡◌, ◌↔◌, true, List, [], ◌∷◌, ◌++◌};
-ghost use Rattle.std.specs.List.{list_any};
+ghost use Rattle.std.specs.Prelude.{◌≡◌, ◌↔◌, ℕ, ◌+◌, ◌<◌, List, ◌++◌, length, take};
 ghost use Rattle.intern_log.specs.declared.event.Event.{Event};
+ghost use Rattle.intern_log.specs.declared.event.TableKind.{TableKind};
+ghost use Rattle.intern_log.specs.Counts.{is_create, events_in};
+ghost use Rattle.intern_log.specs.Faults.{IsFirstFault, IsNotAllowedAt, ReachesCreate};
+ghost use Rattle.intern_log.specs.Lawful.{IsLawful};
 ghost use Rattle.intern_log.specs.Log.{IsLegal};
-ghost use Rattle.intern_log.specs.Counts.{is_create};
-ghost use Rattle.intern_log.specs.Faults.{ReachesCreate};
 
-/// In a legal log a Create is reached where there is one.
-pub fn create_reached_in_a_legal_log()
-    ensures law { (log : List Event) → IsLegal log → ReachesCreate IsLegal log ↔ (list_any (λ (e : Event). is_create e.what) log ≡ true) }
+/// A place is the first fault where the events before it are as they should be, and are not with the event there.
+pub fn place_of_the_first_fault()
+    ensures legal { (log : List Event) (n : ℕ) → IsFirstFault IsLegal log n ↔ ((n < length log) × IsLegal (take n log) × ¬ (IsLegal (take (n + 1) log))) }
+    ensures lawful { (table : TableKind) (log : List Event) (n : ℕ) →
+        IsFirstFault (IsLawful table) log n ↔ ((n < length log) × IsLawful table (take n log) × ¬ (IsLawful table (take (n + 1) log))) }
 {}
 
-/// In another log a Create is reached where there is one before the first event that is not legal.
-pub fn create_reached_before_a_fault()
-    ensures law { (front back : List Event) (e : Event) → IsLegal front → ¬ (IsLegal (front ++ e ∷ [])) →
-        ReachesCreate IsLegal (front ++ e ∷ back) ↔ (list_any (λ (x : Event). is_create x.what) front ≡ true) }
+/// A log has one first fault at most.
+pub fn first_fault_is_one()
+    ensures legal { (log : List Event) (n m : ℕ) → IsFirstFault IsLegal log n → IsFirstFault IsLegal log m → n ≡ m }
+    ensures lawful { (table : TableKind) (log : List Event) (n m : ℕ) → IsFirstFault (IsLawful table) log n → IsFirstFault (IsLawful table) log m → n ≡ m }
+{}
+
+/// The first fault of a log that should be legal is the place of an event that is not allowed, after a legal beginning.
+pub fn first_fault_is_not_allowed()
+    ensures law { (log : List Event) (n : ℕ) → IsFirstFault IsLegal log n ↔ (IsLegal (take n log) × IsNotAllowedAt log n) }
+{}
+
+/// A log reaches a Create where some beginning of it is as it should be and has a Create.
+pub fn creates_that_are_reached()
+    ensures legal { (log : List Event) → ReachesCreate IsLegal log ↔ ((front back : List Event) × (log ≡ front ++ back) × IsLegal front × (0 < events_in is_create front)) }
+    ensures lawful { (table : TableKind) (log : List Event) →
+        ReachesCreate (IsLawful table) log ↔ ((front back : List Event) × (log ≡ front ++ back) × IsLawful table front × (0 < events_in is_create front)) }
 {}
 
 #[cfg(test)]
@@ -24,7 +39,9 @@ mod tests {
 
     #[test]
     fn laws_can_be_called() {
-        create_reached_in_a_legal_log();
-        create_reached_before_a_fault();
+        place_of_the_first_fault();
+        first_fault_is_one();
+        first_fault_is_not_allowed();
+        creates_that_are_reached();
     }
 }

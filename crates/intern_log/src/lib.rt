@@ -10,17 +10,22 @@
 //! is allowed. [`first_fault`] finds the first event of a list that the map before it does not allow.
 #![tactic(auto)]
 
+pub mod allowed_laws;
 pub mod bucket_laws;
 pub mod caller_laws;
 pub mod cause_laws;
 pub mod changes_laws;
+pub mod count_laws;
 pub mod entry_count_laws;
+pub mod entry_laws;
 pub mod event;
 pub mod event_laws;
 pub mod fault;
 pub mod fault_laws;
 mod fields;
+pub mod final_laws;
 pub mod grown_log;
+pub mod held_laws;
 pub mod lawful_logs;
 pub mod laws;
 pub mod now_laws;
@@ -29,6 +34,7 @@ pub mod refilled_log;
 pub mod rehashed_log;
 pub mod replay;
 pub mod resize_laws;
+pub mod row_laws;
 pub mod seed_laws;
 pub mod stays_laws;
 pub mod text;
