@@ -39,3 +39,5 @@ pub mod RowLaws
 pub mod FirstFaults
 pub mod FinalLaws
 pub mod HeldLaws
+pub mod WorkedPlainLogLaws
+pub mod NextLaws

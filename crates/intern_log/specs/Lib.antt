@@ -25,3 +25,4 @@ pub mod Touches
 pub mod RefilledLog
 pub mod GrownLog
 pub mod Rules
+pub mod WorkedPlainLogs
