@@ -16,11 +16,11 @@ use Rattle.intern_log.specs.TextMap.{TextMap, entry_of, HasHandle, IsLive, live_
 use Rattle.intern_log.specs.Log.{HandlesDiffer}
 use Rattle.intern_log.proofs.Entries.{entry_of-put_at, entry_of-alter}
 
-chosen : {A : Type 0} (P : Type 0) (b : Bool) (x y : A) → Decides b P → P → cond b x y ≡ x
+pub chosen : {A : Type 0} (P : Type 0) (b : Bool) (x y : A) → Decides b P → P → cond b x y ≡ x
 chosen P true x y decided is = refl
 chosen P false x y decided is = let never = decided.1 is in absurd (cc)
 
-not_chosen : {A : Type 0} (P : Type 0) (b : Bool) (x y : A) → Decides b P → ¬ P → cond b x y ≡ y
+pub not_chosen : {A : Type 0} (P : Type 0) (b : Bool) (x y : A) → Decides b P → ¬ P → cond b x y ≡ y
 not_chosen P true x y decided is_not = absurd (is_not (decided.0 refl))
 not_chosen P false x y decided is_not = refl
 

@@ -41,3 +41,5 @@ pub mod RowLaws
 pub mod FirstFaults
 pub mod FinalLaws
 pub mod HeldLaws
+pub mod WorkedPlainLogLaws
+pub mod NextLaws

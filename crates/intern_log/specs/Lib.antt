@@ -26,3 +26,4 @@ pub mod Touches
 pub mod RefilledLog
 pub mod GrownLog
 pub mod Rules
+pub mod WorkedPlainLogs

@@ -28,6 +28,7 @@ pub mod grown_log;
 pub mod held_laws;
 pub mod lawful_logs;
 pub mod laws;
+pub mod next_laws;
 pub mod now_laws;
 pub mod plain_log_laws;
 pub mod refilled_log;
@@ -41,6 +42,7 @@ pub mod text;
 pub mod window_laws;
 pub mod window_list_laws;
 pub mod worked_log;
+pub mod worked_plain_logs;
 
 pub use event::{Entry, Event, Handle, Kind, PERMANENT, Released, TableKind, What};
 pub use fault::first_fault;
