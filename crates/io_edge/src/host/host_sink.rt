@@ -1,6 +1,6 @@
 ghost use Rattle.std.specs.Prelude.{◌≡◌, ◌<◌, ◌≤◌, length, take};
 ghost use Rattle.std.specs.Io.KnownBytes.{Appends, Keeps};
-ghost use Rattle.io_edge.specs.Faults.{raised};
+ghost use Rattle.io_edge.specs.Faults.{Rose, raised};
 ghost use Rattle.io_edge.specs.Wrote.{IfWrote, OnWriteFailed};
 
 use crate::sink::{Sink, Wrote};
@@ -41,7 +41,18 @@ impl<R: Print + Drop> Sink for HostSink<R> {
 
     ghost faults = { λ faults. faults };
 
-    fn write_some(&mut self, piece: &[u8]) -> Wrote {
+    fn write_some(&mut self, piece: &[u8]) -> Wrote
+        requires some { 0 < length piece.now }
+
+        ensures count { IfWrote result (λ n. (1 ≤ n) × (n ≤ length piece.now)) }
+
+        ensures fault { OnWriteFailed result (Rose self.old self.new) }
+        ensures never_falls { self.old ≤ self.new }
+
+        // One fault is counted where the write failed, and none where bytes were taken.
+        ensures after_bytes { IfWrote result (λ _. self.new ≡ self.old) }
+        ensures after_failed { OnWriteFailed result (self.new ≡ raised self.old) }
+    {
         write_counted(&mut io::writer(&self.rt), &mut self.faults, piece)
     }
 }
