@@ -4,6 +4,7 @@ use native.Mathlib.Omega.{arith}
 use Rattle.std.specs.Prelude.{nat_lt}
 use Rattle.marked_word.specs.Head.{is_locked, first_of}
 use Rattle.table_shape.specs.declared.shape.Shape.{Shape}
+use Rattle.section_core.specs.Words.{waits_for}
 use Rattle.call_machine.specs.declared.work.AfterGrace.{AfterGrace}
 use Rattle.call_machine.specs.declared.work.AfterGrace.TheVariants as after
 use Rattle.call_machine.specs.declared.work.Progress.{Progress}
@@ -29,7 +30,7 @@ use Rattle.call_machine.specs.GrowLocks.{row_left, new_at, grow_old, grow_all, g
 use Rattle.call_machine.specs.Polls.{poll_got, poll_event, poll_event_by}
 use Rattle.call_machine.specs.SoundPoll.{IsSoundPoll, FitsPoll}
 use Rattle.call_machine.specs.SoundWork.{Unlinks, HasOldSide, IsAfterGrace, IsSoundStart, IsSoundFree, IsSoundWorkStage}
-use Rattle.call_machine.specs.WorkGraces.{after_grace, is_waited_for}
+use Rattle.call_machine.specs.WorkGraces.{after_grace}
 use Rattle.call_machine.specs.WorkLocks.{locked}
 use Rattle.call_machine.specs.WorkParts.{bucket_at, unzips_on, half}
 use Rattle.call_machine.specs.WorkResizes.{head_put, head_redirected}
@@ -106,7 +107,7 @@ grow_step shape w (stage.Join s) word st is at = let same = sym is ∙ at.0 in a
 grow_step shape w (stage.Unlock side) word st is at = unlocks_one w w.task side is
 grow_step shape w (stage.Grace (grace.Raise then_do)) word st is at = refl
 grow_step shape w (stage.Grace (grace.Scan then_do seat)) word st is at =
-    either_way (λ (came : Work × Progress). grows came ≡ grow_locked_at w (stage.Grace (grace.Scan then_do seat))) (is_waited_for w.raised word) _ _ (ap (grow_locked_at w) st)
+    either_way (λ (came : Work × Progress). grows came ≡ grow_locked_at w (stage.Grace (grace.Scan then_do seat))) (waits_for w.raised word) _ _ (ap (grow_locked_at w) st)
     (either_way (λ (t : WorkStage). grow_locked_at w t ≡ grow_locked_at w (stage.Grace (grace.Scan then_do seat))) (seat + 1 == shape.seats) _ _ (over_same w w.task then_do seat is at.0) refl)
 grow_step shape w (stage.Free s) word st is at = absurd (subst Unlinks is (frees s at))
   where

@@ -5,6 +5,7 @@ use Rattle.std.specs.Prelude.{nat_lt}
 use Rattle.marked_word.specs.Head.{is_locked, first_of}
 use Rattle.marked_word.specs.Link.{node_of}
 use Rattle.table_shape.specs.declared.shape.Shape.{Shape}
+use Rattle.section_core.specs.Words.{waits_for}
 use Rattle.call_machine.specs.declared.work.AfterGrace.{AfterGrace}
 use Rattle.call_machine.specs.declared.work.AfterGrace.TheVariants as after
 use Rattle.call_machine.specs.declared.work.FreeStage.{FreeStage}
@@ -31,7 +32,7 @@ use Rattle.call_machine.specs.Polls.{poll_got, poll_event, poll_event_by}
 use Rattle.call_machine.specs.ShrinkLocks.{pairs_left, shrink_old, shrink_all, shrink_locking, shrink_locked_at, shrink_locked}
 use Rattle.call_machine.specs.SoundPoll.{IsSoundPoll, FitsPoll}
 use Rattle.call_machine.specs.SoundWork.{Unlinks, HasNewSide, IsAfterGrace, IsSoundStart, IsSoundFree, IsSoundWorkStage}
-use Rattle.call_machine.specs.WorkGraces.{after_grace, is_waited_for}
+use Rattle.call_machine.specs.WorkGraces.{after_grace}
 use Rattle.call_machine.specs.WorkLocks.{locked}
 use Rattle.call_machine.specs.WorkParts.{bucket_at, half}
 use Rattle.call_machine.specs.WorkResizes.{head_put, head_redirected, joins_from, joins_at}
@@ -116,7 +117,7 @@ shrink_step shape w (stage.Join (join.Join x)) word st is at = refl
 shrink_step shape w (stage.Unlock side) word st is at = unlocks_one w w.task side is at
 shrink_step shape w (stage.Grace (grace.Raise then_do)) word st is at = refl
 shrink_step shape w (stage.Grace (grace.Scan then_do seat)) word st is at =
-    either_way (λ (came : Work × Progress). shrinks came ≡ shrink_locked_at w (stage.Grace (grace.Scan then_do seat))) (is_waited_for w.raised word) _ _ (ap (shrink_locked_at w) st)
+    either_way (λ (came : Work × Progress). shrinks came ≡ shrink_locked_at w (stage.Grace (grace.Scan then_do seat))) (waits_for w.raised word) _ _ (ap (shrink_locked_at w) st)
     (either_way (λ (t : WorkStage). shrink_locked_at w t ≡ shrink_locked_at w (stage.Grace (grace.Scan then_do seat))) (seat + 1 == shape.seats) _ _ (over_same w w.task then_do seat is at.0) refl)
 shrink_step shape w (stage.Free s) word st is at = absurd (subst Unlinks is (frees s at))
   where

@@ -9,6 +9,7 @@ use Rattle.intern_log.specs.declared.event.What.TheVariants as what
 use Rattle.marked_word.specs.Head.{is_locked, first_of}
 use Rattle.marked_word.specs.Link.{node_of}
 use Rattle.table_shape.specs.declared.shape.Shape.{Shape}
+use Rattle.section_core.specs.Words.{waits_for}
 use Rattle.call_machine.specs.declared.call.Answer.{Answer}
 use Rattle.call_machine.specs.declared.call.Answer.TheVariants as answer
 use Rattle.call_machine.specs.declared.poll.Polling.{Polling}
@@ -40,7 +41,7 @@ use Rattle.call_machine.specs.SoundPoll.{IsSoundPoll, FitsPoll}
 use Rattle.call_machine.specs.SoundWork.{Unlinks, Resizes, IsSoundStart, IsSoundWorkStage}
 use Rattle.call_machine.specs.WholeWorks.{polled_on, goes_on, AreFittingWork, work_after, work_events, end_events, events_at_end, times_given}
 use Rattle.call_machine.specs.WorkEnds.{IsOver}
-use Rattle.call_machine.specs.WorkGraces.{after_grace, all_freed, ends_freeing, is_waited_for}
+use Rattle.call_machine.specs.WorkGraces.{after_grace, all_freed, ends_freeing}
 use Rattle.call_machine.specs.WorkLocks.{locked}
 use Rattle.call_machine.specs.WorkParts.{bucket_at, end_level, half, cleans_on, unzips_on, raises}
 use Rattle.call_machine.specs.WorkPasses.{unlinked, after_unlink}
@@ -215,7 +216,7 @@ makes_at shape w (stage.Join (join.Join x)) word is at = refl
 makes_at shape w (stage.Unlock side) word is at = unlocks_all w w.task side refl
 makes_at shape w (stage.Grace (grace.Raise then_do)) word is at = begins_scan w.task w.level then_do
 makes_at shape w (stage.Grace (grace.Scan then_do seat)) word is at =
-    either_way (λ (came : Work × Progress). left_after came.0 came.1 ≡ to_come w.task w.level (stage.Grace (grace.Scan then_do seat))) (is_waited_for w.raised word) _ _ (ap (to_come w.task w.level) is)
+    either_way (λ (came : Work × Progress). left_after came.0 came.1 ≡ to_come w.task w.level (stage.Grace (grace.Scan then_do seat))) (waits_for w.raised word) _ _ (ap (to_come w.task w.level) is)
     (either_way (λ (s : WorkStage). to_come w.task w.level s ≡ to_come w.task w.level (stage.Grace (grace.Scan then_do seat))) (seat + 1 == shape.seats) _ _ (grace_over w then_do seat) (scans_on w.task w.level then_do seat (seat + 1)))
 makes_at shape w (stage.Free (free.Count k last)) word is at = refl
 makes_at shape w (stage.Free (free.Claim k last)) word is at = either_way (LeavesAll w) (k + 1 == length w.waiting.items) _ _ (frees_all shape w last at.0) refl

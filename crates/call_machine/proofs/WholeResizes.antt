@@ -8,6 +8,7 @@ use Rattle.intern_log.specs.declared.event.What.{What}
 use Rattle.marked_word.specs.Head.{is_locked, first_of}
 use Rattle.marked_word.specs.Link.{node_of}
 use Rattle.table_shape.specs.declared.shape.Shape.{Shape}
+use Rattle.section_core.specs.Words.{waits_for}
 use Rattle.call_machine.specs.declared.poll.Polling.{Polling}
 use Rattle.call_machine.specs.declared.stage.Caller.{Caller}
 use Rattle.call_machine.specs.declared.work.AfterGrace.{AfterGrace}
@@ -38,7 +39,7 @@ use Rattle.call_machine.specs.SoundPoll.{IsSoundPoll, FitsPoll}
 use Rattle.call_machine.specs.SoundWork.{IsBucket, Unlinks, Resizes, IsSoundStart, IsSoundFree, IsSoundWorkStage}
 use Rattle.call_machine.specs.WholeWorks.{goes_on, AreFittingWork, work_after, work_events, AreLockChanges}
 use Rattle.call_machine.specs.WorkEnds.{IsOver}
-use Rattle.call_machine.specs.WorkGraces.{is_waited_for, after_grace}
+use Rattle.call_machine.specs.WorkGraces.{after_grace}
 use Rattle.call_machine.specs.WorkLocks.{locked}
 use Rattle.call_machine.specs.WorkParts.{half, goes, raises, unzips_on}
 use Rattle.call_machine.specs.WorkResizes.{joins_from, joins_at, head_put, head_redirected}
@@ -174,7 +175,7 @@ leads_at shape w (stage.Join (join.Join x)) word is resizes below at last = (ref
 leads_at shape w (stage.Unlock side) word is resizes below at last = unlocked_leads w w.task side resizes below
 leads_at shape w (stage.Grace (grace.Raise then_do)) word is resizes below at last = (refl, last, tt)
 leads_at shape w (stage.Grace (grace.Scan then_do seat)) word is resizes below at last =
-    either_way (LeadsOn w) (is_waited_for w.raised word) _ _ (refl, subst (IsLastAt w.bucket (half w)) (sym is) last, tt)
+    either_way (LeadsOn w) (waits_for w.raised word) _ _ (refl, subst (IsLastAt w.bucket (half w)) (sym is) last, tt)
     (either_way (λ (s : WorkStage). LeadsOn w (goes w s)) (seat + 1 == shape.seats) _ _ (over_leads w then_do last) (refl, last, tt))
 leads_at shape w (stage.Free s) word is resizes below at last = absurd (unlinks_none w.task resizes (frees s at))
   where

@@ -5,6 +5,7 @@ use Rattle.std.specs.Prelude.{nat_lt, nat_le, drop}
 use Rattle.marked_word.specs.Head.{is_locked, first_of}
 use Rattle.marked_word.specs.Link.{node_of}
 use Rattle.table_shape.specs.declared.shape.Shape.{Shape}
+use Rattle.section_core.specs.Words.{waits_for}
 use Rattle.call_machine.specs.declared.work.AfterGrace.{AfterGrace}
 use Rattle.call_machine.specs.declared.work.AfterGrace.TheVariants as after
 use Rattle.call_machine.specs.declared.work.Progress.{Progress}
@@ -37,7 +38,7 @@ use Rattle.call_machine.specs.SoundPoll.{IsSoundPoll}
 use Rattle.call_machine.specs.SoundWork.{Resizes, IsAfterGrace, IsSoundWork, IsSoundWorkStage}
 use Rattle.call_machine.specs.WorkCounts.{freed_at, still_waiting}
 use Rattle.call_machine.specs.WorkEnds.{IsTidyAt, IsTidy, IsOver}
-use Rattle.call_machine.specs.WorkGraces.{after_grace, all_freed, ends_freeing, is_waited_for}
+use Rattle.call_machine.specs.WorkGraces.{after_grace, all_freed, ends_freeing}
 use Rattle.call_machine.specs.WorkLocks.{locked}
 use Rattle.call_machine.specs.WorkParts.{bucket_at, cleans_on, unzips_on, half, raises, raise_progress}
 use Rattle.call_machine.specs.WorkPasses.{unlinked}
@@ -129,7 +130,7 @@ ends_well shape w (stage.Join (join.Link x)) word is tidy = λ d. absurd (cc)
 ends_well shape w (stage.Join (join.Join x)) word is tidy = λ d. absurd (cc)
 ends_well shape w (stage.Unlock side) word is tidy = unlocks_well w w.task side refl
 ends_well shape w (stage.Grace (grace.Raise then_do)) word is tidy = λ d. absurd (cc)
-ends_well shape w (stage.Grace (grace.Scan then_do seat)) word is tidy = either_way EndsWell (is_waited_for w.raised word) _ _ (λ d. absurd (cc)) (λ d. absurd (cc))
+ends_well shape w (stage.Grace (grace.Scan then_do seat)) word is tidy = either_way EndsWell (waits_for w.raised word) _ _ (λ d. absurd (cc)) (λ d. absurd (cc))
 ends_well shape w (stage.Free (free.Count k last)) word is tidy = λ d. absurd (cc)
 ends_well shape w (stage.Free (free.Claim k last)) word is tidy = either_way EndsWell (k + 1 == length w.waiting.items) _ _ (frees_well shape w last) (λ d. absurd (cc))
 ends_well shape w (stage.End end.StoreLevel) word is tidy = raises_well w after.ClearNewLevel
@@ -272,7 +273,7 @@ tidy_step shape w (stage.Join (join.Join x)) word is idle at tidy = tt
 tidy_step shape w (stage.Unlock side) word is idle at tidy = tidy_unlocked w w.task side is idle
 tidy_step shape w (stage.Grace (grace.Raise then_do)) word is idle at tidy = tt
 tidy_step shape w (stage.Grace (grace.Scan then_do seat)) word is idle at tidy =
-    either_way EndsTidy (is_waited_for w.raised word) _ _ (subst (IsTidyAt w) (sym is) tt)
+    either_way EndsTidy (waits_for w.raised word) _ _ (subst (IsTidyAt w) (sym is) tt)
     (either_way (IsTidyAt w) (seat + 1 == shape.seats) _ _ (tidy_over w w.task then_do idle at.0) tt)
 tidy_step shape w (stage.Free (free.Count k last)) word is idle at tidy = tt
 tidy_step shape w (stage.Free (free.Claim k last)) word is idle at tidy = either_way EndsTidy (k + 1 == length w.waiting.items) _ _ (tidy_freed shape w last) tt

@@ -4,6 +4,7 @@ use Rattle.std.specs.Prelude.{nat_lt, min}
 use Rattle.marked_word.specs.Head.{is_locked, first_of}
 use Rattle.marked_word.specs.Link.{node_of}
 use Rattle.table_shape.specs.declared.shape.Shape.{Shape}
+use Rattle.section_core.specs.Words.{waits_for}
 use Rattle.call_machine.specs.declared.work.AfterGrace.{AfterGrace}
 use Rattle.call_machine.specs.declared.work.AfterGrace.TheVariants as after
 use Rattle.call_machine.specs.declared.work.Progress.{Progress}
@@ -12,7 +13,7 @@ use Rattle.call_machine.specs.declared.work.Task.{Task}
 use Rattle.call_machine.specs.declared.work.Task.TheVariants.{Clean, Grow, Shrink, Sweep}
 use Rattle.call_machine.specs.declared.work.Waiting.{Waiting}
 use Rattle.call_machine.specs.WorkCounts.{one_more, freed_at}
-use Rattle.call_machine.specs.WorkGraces.{after_grace, scanned, all_freed, ends_freeing, is_waited_for}
+use Rattle.call_machine.specs.WorkGraces.{after_grace, scanned, all_freed, ends_freeing}
 use Rattle.call_machine.specs.WorkLocks.{locked}
 use Rattle.call_machine.specs.WorkParts.{cleans_on, half, raises, unzips_on}
 use Rattle.call_machine.specs.WorkPasses.{unlinked}
@@ -146,7 +147,7 @@ kept_at shape w (stage.Join (join.Join x)) word is plain = record { task = refl;
 kept_at shape w (stage.Unlock side) word is plain = unlocked_kept w w.task side is
 kept_at shape w (stage.Grace (grace.Raise then_do)) word is plain = absurd plain
 kept_at shape w (stage.Grace (grace.Scan then_do seat)) word is plain =
-    either_way (λ (came : Work × Progress). Kept w came.0 (stage.Grace (grace.Scan then_do seat))) (is_waited_for w.raised word) _ _ (record { task = refl; unlinked = refl; graces = refl; items = refl; freed = ap freed_at is })
+    either_way (λ (came : Work × Progress). Kept w came.0 (stage.Grace (grace.Scan then_do seat))) (waits_for w.raised word) _ _ (record { task = refl; unlinked = refl; graces = refl; items = refl; freed = ap freed_at is })
     (record { task = refl; unlinked = refl; graces = refl; items = refl; freed = scans_none shape w then_do seat })
 kept_at shape w (stage.Free (free.Count k last)) word is plain = record { task = refl; unlinked = refl; graces = refl; items = refl; freed = refl }
 kept_at shape w (stage.Free (free.Claim k last)) word is plain = absurd plain

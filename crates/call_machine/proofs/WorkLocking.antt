@@ -4,6 +4,7 @@ use Rattle.std.specs.Prelude.{nat_lt}
 use Rattle.marked_word.specs.Head.{is_locked, first_of}
 use Rattle.marked_word.specs.Link.{node_of}
 use Rattle.table_shape.specs.declared.shape.Shape.{Shape}
+use Rattle.section_core.specs.Words.{waits_for}
 use Rattle.call_machine.specs.declared.work.AfterGrace.{AfterGrace}
 use Rattle.call_machine.specs.declared.work.AfterGrace.TheVariants as after
 use Rattle.call_machine.specs.declared.work.Progress.{Progress}
@@ -30,7 +31,7 @@ use Rattle.call_machine.specs.LockedBuckets.{locked_at, locked_by, locked_bucket
 use Rattle.call_machine.specs.Polls.{answer_of, poll_got, poll_event, poll_event_by}
 use Rattle.call_machine.specs.SoundPoll.{IsSoundPoll, FitsPoll}
 use Rattle.call_machine.specs.SoundWork.{Unlinks, HasNewSide, HasOldSide, IsAfterGrace, IsSoundWorkStage}
-use Rattle.call_machine.specs.WorkGraces.{after_grace, scanned, all_freed, ends_freeing, is_waited_for}
+use Rattle.call_machine.specs.WorkGraces.{after_grace, scanned, all_freed, ends_freeing}
 use Rattle.call_machine.specs.WorkLocks.{locked}
 use Rattle.call_machine.specs.WorkParts.{bucket_at, cleans_on, end_level, raises, raise_progress}
 use Rattle.call_machine.specs.WorkPasses.{unlinked, after_unlink}
@@ -177,7 +178,7 @@ locked_by_step shape w (stage.Join s) word is unlinks at = absurd (subst Unlinks
 locked_by_step shape w (stage.Unlock side) word is unlinks at = unlocked_none w w.task side refl unlinks
 locked_by_step shape w (stage.Grace (grace.Raise then_do)) word is unlinks at = refl
 locked_by_step shape w (stage.Grace (grace.Scan then_do seat)) word is unlinks at =
-    either_way (λ (came : Work × Progress). holds came ≡ None) (is_waited_for w.raised word) _ _ (ap (locked_at w) is) (scans_none shape w then_do seat unlinks at.0)
+    either_way (λ (came : Work × Progress). holds came ≡ None) (waits_for w.raised word) _ _ (ap (locked_at w) is) (scans_none shape w then_do seat unlinks at.0)
 locked_by_step shape w (stage.Free (free.Count k last)) word is unlinks at = refl
 locked_by_step shape w (stage.Free (free.Claim k last)) word is unlinks at =
     either_way (λ (came : Work × Progress). holds came ≡ None) (k + 1 == length w.waiting.items) _ _ (freed_none shape w w.task last refl unlinks) refl

@@ -8,6 +8,7 @@ use Rattle.std.specs.Prelude.{IfSome, nat_lt, min}
 use Rattle.marked_word.specs.Head.{is_locked, first_of}
 use Rattle.marked_word.specs.Link.{node_of}
 use Rattle.table_shape.specs.declared.shape.Shape.{Shape}
+use Rattle.section_core.specs.Words.{waits_for}
 use Rattle.call_machine.specs.declared.work.AfterGrace.{AfterGrace}
 use Rattle.call_machine.specs.declared.work.AfterGrace.TheVariants.{FreeAgain, FreeLast, UnzipOn, UnlockJoined, ClearNewLevel}
 use Rattle.call_machine.specs.declared.work.Chains.{Chains}
@@ -43,7 +44,7 @@ use Rattle.call_machine.specs.WorkLocks.{chains_from, locked, lock_got, begins_p
 use Rattle.call_machine.specs.SoundCall.{IsLevel, IsHeadWord}
 use Rattle.call_machine.specs.SoundWork.{IsNode, AreChains, MayWait, LeadsToLevel, IsBucket, Unlinks, Resizes, HasNewSide, HasOldSide, IsSoundStart, IsSoundLock, IsSoundPass, IsSoundHead, IsSoundUnzip, IsSoundJoin, IsAfterGrace, HasWaiting, IsSoundGrace, IsSoundFree, IsSoundEnd, IsSoundWorkStage, IsSoundWork, FitsStart, FitsPass, FitsUnzip, FitsJoin, FitsWorkStage, FitsWork}
 use Rattle.call_machine.specs.WorkPasses.{dead_of, without_first, waits, unlinked, after_unlink, pass_got}
-use Rattle.call_machine.specs.WorkGraces.{is_waited_for, after_grace, scanned, grace_got, ends_freeing, all_freed, free_got}
+use Rattle.call_machine.specs.WorkGraces.{after_grace, scanned, grace_got, ends_freeing, all_freed, free_got}
 use Rattle.call_machine.specs.WorkResizes.{joins_from, head_put, head_redirected, head_got, moved_first, moved, unzip_got, joins_at, join_got}
 use Rattle.call_machine.specs.Works.{start_got, next_pair, counts_pass, ends_clean, next_bucket, ends_sweep, unlocked, end_got, work_got_at, work_got}
 use Rattle.call_machine.proofs.Walks.{node_below}
@@ -389,7 +390,7 @@ graces_soundly shape w (Raise after) word sound at = record {
   stage = (at.0, at.1, sound.sound.seats.0);
 }
 graces_soundly shape w (Scan after seat) word sound at =
-    either (λ (came : Work × Progress). IsSoundWork shape came.0) (is_waited_for w.raised word) _ _ (λ waits. sound) (λ passed. staged shape w _ sound (scans_soundly shape w after seat sound at))
+    either (λ (came : Work × Progress). IsSoundWork shape came.0) (waits_for w.raised word) _ _ (λ waits. sound) (λ passed. staged shape w _ sound (scans_soundly shape w after seat sound at))
 
 -- the work once all slots that waited are free
 ends_by_task : (shape : Shape) (w : Work) (task : Task) → w.task ≡ task → Unlinks task → IsSoundWork shape w → IsSoundWork shape (ends_freeing (empty w) task).0

@@ -4,6 +4,7 @@ use Rattle.table_shape.specs.declared.place.Place.TheVariants as place
 use Rattle.table_shape.specs.declared.shape.Shape.{Shape}
 use Rattle.intern_log.specs.declared.event.What.{What}
 use Rattle.intern_log.specs.declared.event.What.TheVariants as what
+use Rattle.section_core.specs.Words.{waits_for}
 use Rattle.call_machine.specs.declared.call.Answer.TheVariants as answer
 use Rattle.call_machine.specs.declared.begin.TheConstants.{SPENT}
 use Rattle.call_machine.specs.declared.stage.Caller.{Caller}
@@ -17,7 +18,6 @@ use Rattle.call_machine.specs.declared.work.Grace.{Grace}
 use Rattle.call_machine.specs.declared.work.Task.{Task}
 use Rattle.call_machine.specs.declared.work.Task.TheVariants.{Grow, Shrink}
 use Rattle.call_machine.specs.Steps.{loads, stores, adds, exchanges}
-use Rattle.call_machine.specs.WorkGraces.{is_waited_for}
 
 -- such a call at its first stage
 abbrev pub begun_begin : Caller → BeginStage → Beginning
@@ -59,7 +59,7 @@ bounded shape task level = stage.Began task level
 -- the section word of a grace's next number was loaded
 abbrev pub scanned : ℕ → Grace → ℕ → BeginStage
 scanned seats grace word =
-    if is_waited_for grace.raised word then stage.Waits grace
+    if waits_for grace.raised word then stage.Waits grace
     else if grace.next + 1 == seats then stage.Answered answer.Ready
     else stage.ScanGrace (record grace { next = grace.next + 1 })
 

@@ -1,10 +1,11 @@
 -- Graces, and the freeing of the slots that wait.
-use Rattle.std.specs.Prelude.{ℕ, ◌+◌, ◌/◌, ◌%◌, ◌==◌, ◌&&◌, Bool, true, false, min, nat_le, nat_lt, if◌then◌else◌, [], length, slice_index_or, Option, Some, None}
+use Rattle.std.specs.Prelude.{ℕ, ◌+◌, ◌/◌, ◌==◌, Bool, true, false, min, nat_lt, if◌then◌else◌, [], length, slice_index_or, Option, Some, None}
 use Rattle.marked_word.specs.Count.{count_word}
 use Rattle.table_shape.specs.declared.place.Place.TheVariants as place
 use Rattle.table_shape.specs.declared.shape.Shape.{Shape}
 use Rattle.intern_log.specs.declared.event.What.{What}
 use Rattle.intern_log.specs.declared.event.What.TheVariants as what
+use Rattle.section_core.specs.Words as words
 use Rattle.call_machine.specs.declared.step.Plan.{Plan}
 use Rattle.call_machine.specs.declared.work.Progress.{Progress}
 use Rattle.call_machine.specs.declared.work.Progress.TheVariants as progress
@@ -32,10 +33,6 @@ abbrev pub grace_plan : GraceStage → Plan
 grace_plan (Raise then_do) = adds K12 place.Counter 2
 grace_plan (Scan then_do seat) = loads K13 (place.Section seat)
 
--- whether a grace that raised the counter to a value waits for a section word: it is open, by a counter below that value
-abbrev pub is_waited_for : ℕ → ℕ → Bool
-is_waited_for raised word = (word % 2 == 1) && nat_le word raised
-
 -- what a work does once its grace is over
 abbrev pub after_grace : Work → AfterGrace → WorkStage
 after_grace w FreeAgain = stage.Free (free.Count 0 false)
@@ -50,7 +47,7 @@ scanned seats w then_do seat = if seat + 1 == seats then after_grace w then_do e
 
 abbrev pub grace_got : Shape → Work → GraceStage → ℕ → Work × Progress
 grace_got shape w (Raise then_do) word = goes (record w { raised = word + 2; graces = min (w.graces + 1) 18446744073709551615 }) (stage.Grace (Scan then_do 0))
-grace_got shape w (Scan then_do seat) word = if is_waited_for w.raised word then (w, progress.PendingSeat seat) else goes w (scanned shape.seats w then_do seat)
+grace_got shape w (Scan then_do seat) word = if words.waits_for w.raised word then (w, progress.PendingSeat seat) else goes w (scanned shape.seats w then_do seat)
 
 abbrev pub grace_event : GraceStage → Option What
 grace_event (Raise then_do) = Some what.Grace

@@ -9,8 +9,8 @@ use crate::call::Answer;
 use crate::stage::Caller;
 use crate::step::{StepKind, Want, add, exchange, load, store};
 use crate::work::{Grace, Task};
-use crate::works::is_waited_for;
 use std::marker::Model;
+use section_core::waits_for;
 use table_shape::{Place, Shape};
 
 mod told;
@@ -99,7 +99,7 @@ fn scanned(seats: u32, grace: Grace, word: u64) -> BeginStage
     requires inside { grace.next < seats }
     ensures value { result ≡ begins.scanned seats grace word }
 {
-    if is_waited_for(grace.raised, word) {
+    if waits_for(grace.raised, word) {
         return BeginStage::Waits { grace };
     }
     let next = grace.next + 1;

@@ -25,8 +25,6 @@ mod resize;
 mod tests;
 mod told;
 
-pub(crate) use grace::is_waited_for;
-
 impl Work {
     /// A work that begins at a level.
     pub(crate) fn begun(task: Task, level: u8) -> Work

@@ -9,6 +9,7 @@ ghost use Rattle.call_machine.specs.SoundWork.{IsSoundGrace, FitsGrace};
 use super::parts::unzips_on;
 use crate::step::{StepKind, Want, add, load};
 use crate::work::{AfterGrace, EndStage, FreeStage, GraceStage, Progress, Side, Work, WorkStage};
+use section_core::waits_for;
 use table_shape::{Place, Shape};
 
 /// The step of a stage of a grace.
@@ -21,14 +22,6 @@ pub(super) fn grace_want(shape: &Shape, stage: GraceStage) -> Want
         GraceStage::Raise { .. } => add(shape, StepKind::K12, Place::Counter, 2),
         GraceStage::Scan { seat, .. } => load(shape, StepKind::K13, Place::Section(seat)),
     }
-}
-
-/// Whether a grace that raised the counter to a value waits for a section word: it is open, by a
-/// counter below that value.
-pub(crate) fn is_waited_for(raised: u64, word: u64) -> bool
-    ensures value { result ≡ graces.is_waited_for raised word }
-{
-    word % 2 == 1 && word <= raised
 }
 
 impl Work {
@@ -73,7 +66,7 @@ impl Work {
                 self.goes(WorkStage::Grace(GraceStage::Scan { then, seat: 0 }))
             }
             GraceStage::Scan { then, seat } => {
-                if is_waited_for(self.raised, word) {
+                if waits_for(self.raised, word) {
                     return Progress::PendingSeat { seat };
                 }
                 self.goes(self.scanned(shape.seats, then, seat))
