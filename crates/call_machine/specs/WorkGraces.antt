@@ -26,7 +26,7 @@ use Rattle.call_machine.specs.declared.work.GraceStage.TheVariants.{Raise, Scan}
 use Rattle.call_machine.specs.declared.work.LockStage.TheVariants.{LoadHead}
 use Rattle.call_machine.specs.declared.work.Waiting.{Waiting}
 use Rattle.call_machine.specs.Steps.{loads, stores, adds}
-use Rattle.call_machine.specs.WorkParts.{goes, unzips_on, waits_for}
+use Rattle.call_machine.specs.WorkParts.{goes, unzips_on, waits_at}
 
 -- the step of each stage of a grace
 abbrev pub grace_plan : GraceStage → Plan
@@ -64,7 +64,7 @@ free_plan w (free.Claim at last) = stores K4 (place.Claim (waiting_at w at).slot
 
 -- the bucket is done again, unless this poll has made all the full passes over it that it may
 abbrev pub cleans_again : Shape → Work → Work × Progress
-cleans_again shape w = if nat_lt (shape.slots / 256) w.full_passes then waits_for w Even else goes w (stage.Lock (LoadHead Even))
+cleans_again shape w = if nat_lt (shape.slots / 256) w.full_passes then waits_at w Even else goes w (stage.Lock (LoadHead Even))
 
 -- all slots that waited are free; a sweep is over, with its bucket unlocked
 abbrev pub ends_freeing : Work → Task → Work × Progress

@@ -18,7 +18,7 @@ use Rattle.call_machine.specs.declared.work.HeadStage.TheVariants.{Put}
 use Rattle.call_machine.specs.declared.work.LockStage.{LockStage}
 use Rattle.call_machine.specs.declared.work.LockStage.TheVariants.{LoadHead, SetLock}
 use Rattle.call_machine.specs.Steps.{loads, exchanges}
-use Rattle.call_machine.specs.WorkParts.{bucket_at, old_head, goes, cleans_on, waits_for}
+use Rattle.call_machine.specs.WorkParts.{bucket_at, old_head, goes, cleans_on, waits_at}
 
 -- the step of each stage
 abbrev pub lock_plan : Work → LockStage → Plan
@@ -42,8 +42,8 @@ locked w _ side first = (begins_pass w first, progress.Moved)
 
 -- what comes of the word that was found
 abbrev pub lock_got : Work → LockStage → ℕ → Work × Progress
-lock_got w (LoadHead side) word = if is_locked word then waits_for w side else goes w (stage.Lock (SetLock side word))
-lock_got w (SetLock side head) word = if word == head then locked w w.task side (first_of head) else waits_for w side
+lock_got w (LoadHead side) word = if is_locked word then waits_at w side else goes w (stage.Lock (SetLock side word))
+lock_got w (SetLock side head) word = if word == head then locked w w.task side (first_of head) else waits_at w side
 
 abbrev pub lock_event : Work → LockStage → ℕ → Option What
 lock_event w (LoadHead side) word = None

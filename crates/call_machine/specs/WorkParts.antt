@@ -95,5 +95,5 @@ abbrev pub raises : Work → AfterGrace → Work × Progress
 raises w then_do = (record w { stage = stage.Grace (Raise then_do) }, raise_progress w.raised)
 
 -- the bucket of a side is locked by another
-abbrev pub waits_for : Work → Side → Work × Progress
-waits_for w side = (record w { stage = stage.Lock (LoadHead side) }, progress.PendingBucket w.level (bucket_at w side))
+abbrev pub waits_at : Work → Side → Work × Progress
+waits_at w side = (record w { stage = stage.Lock (LoadHead side) }, progress.PendingBucket w.level (bucket_at w side))

@@ -9,8 +9,8 @@ use crate::call::Answer;
 use crate::stage::Caller;
 use crate::step::{StepKind, Want, add, exchange, load, store};
 use crate::work::{Grace, Task};
-use std::marker::Model;
 use section_core::waits_for;
+use std::marker::Model;
 use table_shape::{Place, Shape};
 
 mod told;

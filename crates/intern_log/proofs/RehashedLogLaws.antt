@@ -1,5 +1,5 @@
 -- The log with a Rehash is lawful.
-use Rattle.std.proofs.Common.{◌≡◌, ℕ, Bool, true, false, cond, ◌||◌, List, [], ◌∷◌, ◌++◌, Option, Some, None, refl, sym, ap, ◌∙◌}
+use Rattle.std.proofs.Common.{◌≡◌, ℕ, Bool, true, false, cond, ◌||◌, List, [], ◌∷◌, ◌++◌, Some, None, refl, sym, ap, ◌∙◌}
 use native.Mathlib.Omega.{arith}
 use Rattle.std.specs.Prelude.{nat_eq}
 use Rattle.std.specs.FinMap as finite
@@ -10,7 +10,7 @@ use Rattle.intern_log.specs.declared.event.Event.{Event}
 use Rattle.intern_log.specs.declared.event.What.TheVariants.{Create, Take, Claim, Open, Close, Rehash}
 use Rattle.intern_log.specs.TextMap.{TextMap, no_texts, entry_of, handle_eq, HasHandle, IsLive}
 use Rattle.intern_log.specs.Log.{next, IsFresh}
-use Rattle.intern_log.specs.Now.{Phase, Vacant, Claimed, Linked, OpenSection, Now, opening, now_of}
+use Rattle.intern_log.specs.Now.{Vacant, Claimed, Linked, OpenSection, Now, opening, now_of}
 use Rattle.intern_log.specs.Lawful.{IsLinkedDead, IsQuiet, IsAllowedFrom, IsLawful}
 use Rattle.intern_log.specs.RehashedLog.{rehashed_table, aa, bb, handle_of_aa, handle_of_bb, before_the_rehash, rehashed_log}
 use Rattle.intern_log.specs.Window.{by_seat}

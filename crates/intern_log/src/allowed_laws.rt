@@ -10,32 +10,32 @@ ghost use Rattle.intern_log.specs.Log.{Allows, creates, IsFresh};
 ghost use Rattle.intern_log.specs.Own.{is_visible};
 ghost use Rattle.intern_log.specs.Sections.{with_event};
 
-/// A Create is allowed where its text has no entry, and no text has an entry of its handle.
+/// A Create is allowed exactly where its text has no entry, and no text has an entry of its handle.
 pub fn creates_that_are_allowed()
     ensures law { (m : TextMap) (text : List ℕ) (h : Handle) → Allows m (Create text h) ↔ ((entry_of m text ≡ None) × ¬ (IsLive m h)) }
 {}
 
-/// A Take is allowed where its text has an entry of its handle.
+/// A Take is allowed exactly where its text has an entry of its handle.
 pub fn takes_that_are_allowed()
     ensures law { (m : TextMap) (text : List ℕ) (h : Handle) → Allows m (Take text h) ↔ ((n : ℕ) × (entry_of m text ≡ Some (record { handle = h; count = n }))) }
 {}
 
-/// A Found likewise.
+/// A Found is allowed exactly where its text has an entry of its handle.
 pub fn founds_that_are_allowed()
     ensures law { (m : TextMap) (text : List ℕ) (h : Handle) → Allows m (Found text h) ↔ ((n : ℕ) × (entry_of m text ≡ Some (record { handle = h; count = n }))) }
 {}
 
-/// A Drop is allowed where its handle is live.
+/// A Drop is allowed exactly where its handle is live.
 pub fn drops_that_are_allowed()
     ensures law { (m : TextMap) (h : Handle) → Allows m (Drop h) ↔ IsLive m h }
 {}
 
-/// A Perm likewise.
+/// A Perm is allowed exactly where its handle is live.
 pub fn perms_that_are_allowed()
     ensures law { (m : TextMap) (h : Handle) → Allows m (Perm h) ↔ IsLive m h }
 {}
 
-/// A Kill likewise.
+/// A Kill is allowed exactly where its handle is live.
 pub fn kills_that_are_allowed()
     ensures law { (m : TextMap) (h : Handle) → Allows m (Kill h) ↔ IsLive m h }
 {}
@@ -45,7 +45,7 @@ pub fn unseen_events_are_allowed()
     ensures law { (m : TextMap) (what : What) → is_visible what ≡ false → Allows m what }
 {}
 
-/// An event creates a handle where it is a Create with that handle.
+/// An event creates a handle exactly where it is a Create with that handle.
 pub fn events_that_create_a_handle()
     ensures law { (what : What) (h : Handle) → (creates what h ≡ true) ↔ ((text : List ℕ) × (what ≡ Create text h)) }
 {}

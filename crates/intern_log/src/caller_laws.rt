@@ -38,7 +38,7 @@ pub fn gains_of_the_callers()
         sum_by (λ numbers. gains (mine log numbers) h) callers ≡ gains log h }
 {}
 
-/// The losses likewise.
+/// The losses of a log are those of its callers together.
 pub fn losses_of_the_callers()
     ensures law { (callers : List (List ℕ)) (log : List Event) (h : Handle) → AreCallers callers log →
         sum_by (λ numbers. losses (mine log numbers) h) callers ≡ losses log h }

@@ -13,12 +13,12 @@ pub fn events_that_are_creates()
     ensures law { (what : What) → (is_create what ≡ true) ↔ ((text : List ℕ) × (h : Handle) × (what ≡ Create text h)) }
 {}
 
-/// The Takes are those that take one.
+/// The Takes are the events that take a text with a handle.
 pub fn events_that_are_takes()
     ensures law { (what : What) → (is_take what ≡ true) ↔ ((text : List ℕ) × (h : Handle) × (what ≡ Take text h)) }
 {}
 
-/// The Founds are those that find one.
+/// The Founds are the events that find a text with a handle.
 pub fn events_that_are_founds()
     ensures law { (what : What) → (is_found what ≡ true) ↔ ((text : List ℕ) × (h : Handle) × (what ≡ Found text h)) }
 {}
@@ -28,7 +28,7 @@ pub fn events_that_are_drops()
     ensures law { (what : What) → (is_drop what ≡ true) ↔ ((h : Handle) × (what ≡ Drop h)) }
 {}
 
-/// The Kills are those that kill one.
+/// The Kills are the events that kill a handle.
 pub fn events_that_are_kills()
     ensures law { (what : What) → (is_kill what ≡ true) ↔ ((h : Handle) × (what ≡ Kill h)) }
 {}

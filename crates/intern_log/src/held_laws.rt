@@ -1,28 +1,27 @@
 //! Laws of what callers hold: a caller's own events, how often a handle is held, and which of the callers holds it.
 //! Each function does nothing: its contract is the law.
-ghost use Rattle.std.specs.Prelude.{◌≡◌, ◌↔◌, ℕ, ◌+◌, ◌<◌, ◌≤◌, List, [], ◌∷◌, ◌++◌};
+ghost use Rattle.std.specs.Prelude.{◌≡◌, ◌↔◌, ◌⊎◌, ℕ, ◌+◌, ◌<◌, ◌≤◌, true, List, [], ◌∷◌, ◌++◌};
 ghost use Rattle.std.specs.List.{Contains};
 ghost use Rattle.intern_log.specs.declared.event.Event.{Event};
 ghost use Rattle.intern_log.specs.declared.event.Handle.{Handle};
+ghost use Rattle.intern_log.specs.declared.event.What.{What};
 ghost use Rattle.intern_log.specs.declared.event.What.TheVariants.{Create, Take, Drop};
 ghost use Rattle.intern_log.specs.Own.{is_gain, is_loss, mine, gains, losses, total, held};
 ghost use Rattle.intern_log.specs.Callers.{AreCallers, DropTheirOwn, IsHeldBySome, IsHeldThroughout};
 ghost use Rattle.intern_log.specs.Place.{Begins};
 ghost use Rattle.intern_log.specs.Sections.{IsCreatedAs};
-ghost use Rattle.intern_log.specs.declared.event.What.{What};
-ghost use Rattle.std.specs.Prelude.{◌⊎◌, true};
 
-/// An event gives a hold on a handle where it is a Create or a Take with it.
+/// An event gives a hold on a handle exactly where it is a Create or a Take with it.
 pub fn events_that_give_a_hold()
     ensures law { (what : What) (h : Handle) → (is_gain what h ≡ true) ↔ ((text : List ℕ) × ((what ≡ Create text h) ⊎ (what ≡ Take text h))) }
 {}
 
-/// An event takes a hold on a handle away where it is a Drop of it.
+/// An event takes a hold on a handle away exactly where it is a Drop of it.
 pub fn events_that_take_a_hold_away()
     ensures law { (what : What) (h : Handle) → (is_loss what h ≡ true) ↔ (what ≡ Drop h) }
 {}
 
-/// A handle is held as often as it was gained more often than lost, and never less often than not at all.
+/// A handle is held as often as it was gained more often than lost, and 0 times where it was lost as often or more often.
 pub fn handles_held_in_all()
     ensures more { (log : List Event) (h : Handle) (n : ℕ) → gains log h ≡ losses log h + n → total log h ≡ n }
     ensures none { (log : List Event) (h : Handle) → gains log h ≤ losses log h → total log h ≡ 0 }

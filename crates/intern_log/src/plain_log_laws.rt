@@ -1,22 +1,16 @@
-//! Laws of the parts of a plain log: membership, the last items of a list, and the Kills of a string log.
+//! Laws of the parts of a plain log: membership, and the Kills of a string log.
 //! Each function does nothing: its contract is the law.
-ghost use Rattle.std.specs.Prelude.{◌≡◌, ℕ, ◌↔◌, true, min, List, ◌++◌, length};
+ghost use Rattle.std.specs.Prelude.{◌≡◌, ℕ, ◌↔◌, true, List, ◌++◌};
 ghost use Rattle.std.specs.List.{Contains};
 ghost use Rattle.intern_log.specs.declared.event.Handle.{Handle};
 ghost use Rattle.intern_log.specs.declared.event.What.{What};
 ghost use Rattle.intern_log.specs.declared.event.What.TheVariants.{Create, Kill};
-ghost use Rattle.intern_log.specs.Finals.{finals, is_among_texts};
+ghost use Rattle.intern_log.specs.Finals.{is_among_texts};
 ghost use Rattle.intern_log.specs.PlainLogs.{kills_of};
 
-/// A text is among the texts where they contain it.
+/// A text is among the texts exactly where they contain it.
 pub fn texts_among_texts()
     ensures law { (texts : List (List ℕ)) (text : List ℕ) → (is_among_texts texts text ≡ true) ↔ Contains texts text }
-{}
-
-/// The finals are the end of the list, `hold` items long, or the whole list where it is shorter.
-pub fn finals_are_the_last_items()
-    ensures law { (hold : ℕ) (items : List (List ℕ)) →
-        ((front : List (List ℕ)) × (items ≡ front ++ finals hold items)) × (length (finals hold items) ≡ min hold (length items)) }
 {}
 
 /// What a string log kills at its end: each handle with which a text was created that is not among the final ones, and
@@ -38,7 +32,6 @@ mod tests {
     #[test]
     fn laws_can_be_called() {
         texts_among_texts();
-        finals_are_the_last_items();
         kills_are_of_texts_that_are_not_final();
         kills_of_two_pieces();
     }

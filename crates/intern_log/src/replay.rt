@@ -250,6 +250,7 @@ mod tests {
         assert_eq!(rt; replay.entries().len(), 0);
         assert!(rt; replay.allows(&create));
         replay.create(b"a", handle)?;
+        assert_eq!(rt; replay.entry(b"a"), Some(Entry { handle, count: 1 }));
         Ok(())
     }
 }

@@ -1,5 +1,5 @@
 -- For which section words a grace waits.
-use Rattle.std.proofs.Common.{◌≡◌, ◌<◌, ◌≤◌, ◌+◌, ◌-◌, ◌*◌, ◌%◌, ℕ, List, [], ⊎_elim, length, get_or, Option, Some, None, IfSome, refl, sym, ap, ◌∙◌, true, false, ◌&&◌}
+use Rattle.std.proofs.Common.{◌≡◌, ◌<◌, ◌≤◌, ◌+◌, ◌-◌, ◌*◌, ◌%◌, ℕ, List, [], ◌⊎◌, ⊎_elim, length, get_or, Option, Some, None, IfSome, refl, sym, ap, ◌∙◌, true, false, ◌&&◌}
 use native.Mathlib.Omega.{arith}
 use Rattle.std.specs.List.{slice_get}
 use Rattle.std.specs.Option.{is_some, option_map}
@@ -30,10 +30,13 @@ pub found_inside : (found : ℕ) (opened_by : Option ℕ) → IfSome opened_by (
 found_inside found None is = even_passed (found + 2) 0 refl
 found_inside found (Some counter) is = opened_before (found + 2) counter is.0 (omega (arith, is.1))
 
-pub passed_stays : (raised by : ℕ) (old new : ℕ → Option ℕ) → ((seat : ℕ) → (seat ≡ by → ⊥) → new seat ≡ old seat) → IfSome (new by) (λ counter. raised ≤ counter) →
+pub passed_stays : (raised by : ℕ) (old new : ℕ → Option ℕ) → ((seat : ℕ) → (seat ≡ by → ⊥) → new seat ≡ old seat) → (new by ≡ old by) ⊎ IfSome (new by) (λ counter. raised ≤ counter) →
     (seat : ℕ) → waits_for raised (section_word (old seat)) ≡ false → waits_for raised (section_word (new seat)) ≡ false
-passed_stays raised by old new others opened seat passed = ⊎_elim
-    (λ here. ap (λ n. waits_for raised (section_word (new n))) here ∙ now (new by) opened)
+passed_stays raised by old new others by_step seat passed = ⊎_elim
+    (λ here. ⊎_elim
+    (λ left. ap (λ n. waits_for raised (section_word (new n))) here ∙ ap (λ s. waits_for raised (section_word s)) left ∙ ap (λ n. waits_for raised (section_word (old n))) (sym here) ∙ passed)
+    (λ opened. ap (λ n. waits_for raised (section_word (new n))) here ∙ now (new by) opened)
+    by_step)
     (λ there. ap (λ s. waits_for raised (section_word s)) (others seat there) ∙ passed)
     (cases_eq seat by)
   where

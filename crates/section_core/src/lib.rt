@@ -7,7 +7,7 @@
 //!
 //! No set of sections is kept for that. There is one counter, which each grace period raises by 2. A
 //! section remembers how far the counter was when it was entered, and a grace period how far it raised
-//! it. A section was open when a grace period began exactly where it remembers less than that, so one
+//! it. An open section was open when a grace period began exactly where it remembers less than that, so one
 //! number for each reader is all that a grace period has to look at, and several grace periods can run
 //! at once. (What is remembered here is how many grace periods had been begun, which says how far the
 //! counter was.)
@@ -28,8 +28,8 @@
 //!
 //! In a table each reader has a section word: 0 while its section is closed, else the counter that it
 //! loaded, which is even, with bit 0 set. `waits_for` is the one comparison of such a word with the
-//! raised counter. Its laws (`word_laws`) are about any function from seats to sections, and say that
-//! the comparison in `Sections` is this one.
+//! raised counter. Its laws (`word_laws`) are about one word and about any function from seats to
+//! sections, and say that the comparison in `Sections` is this one.
 #![tactic(auto)]
 
 pub mod laws;

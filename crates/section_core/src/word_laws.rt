@@ -1,5 +1,5 @@
 //! Laws of section words. Each function does nothing: its contract is the law.
-ghost use Rattle.std.specs.Prelude.{◌≡◌, ◌≢◌, ◌<◌, ◌≤◌, ◌+◌, ◌*◌, ◌%◌, ℕ, Option, Some, None, List, [], true, false, is_some, length, slice_get, slice_index_or, IfSome};
+ghost use Rattle.std.specs.Prelude.{◌≡◌, ◌≢◌, ◌⊎◌, ◌<◌, ◌≤◌, ◌+◌, ◌*◌, ◌%◌, ℕ, Option, Some, None, List, [], true, false, is_some, length, slice_get, slice_index_or, IfSome};
 ghost use Rattle.std.specs.Option.{option_map};
 ghost use Rattle.section_core.specs.Sections.{was_inside, state_of};
 ghost use Rattle.section_core.specs.Words.{section_word, waits_for};
@@ -28,12 +28,12 @@ pub fn a_grace_waits_for_who_is_inside()
         (seat : ℕ) → waits_for (found + 2) (section_word (opened_by seat)) ≡ is_some (opened_by seat) }
 {}
 
-/// A seat that a grace has passed stays passed. One step changes the section of one seat: it closes it,
-/// or opens it by a counter that is no lower than the raised one. So is each counter that was loaded
-/// since the grace raised it, because no step lowers the counter.
+/// A seat that a grace has passed stays passed. One step changes the section of one seat at most: it
+/// leaves it, closes it, or opens it by a counter that is no lower than the raised one. So is each counter
+/// that was loaded since the grace raised it, because no step lowers the counter.
 pub fn passed_seats_stay_passed()
     ensures law { (raised by : ℕ) (old new : ℕ → Option ℕ) → ((seat : ℕ) → seat ≢ by → new seat ≡ old seat) →
-        IfSome (new by) (λ counter. raised ≤ counter) →
+        (new by ≡ old by) ⊎ IfSome (new by) (λ counter. raised ≤ counter) →
         (seat : ℕ) → waits_for raised (section_word (old seat)) ≡ false → waits_for raised (section_word (new seat)) ≡ false }
 {}
 

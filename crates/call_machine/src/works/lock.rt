@@ -80,9 +80,9 @@ impl Work {
     }
 
     /// The bucket of a side is locked by another.
-    pub(super) fn waits_for(&mut self, side: Side) -> Progress
+    pub(super) fn waits_at(&mut self, side: Side) -> Progress
         requires sound { (shape : Shape) × IsSoundWork shape self.old }
-        ensures value { (self.new, result) ≡ parts.waits_for self.old side }
+        ensures value { (self.new, result) ≡ parts.waits_at self.old side }
     {
         let bucket = self.bucket_at(side);
         self.stage = WorkStage::Lock(LockStage::LoadHead { side });
@@ -133,7 +133,7 @@ impl Work {
         match stage {
             LockStage::LoadHead { side } => {
                 if is_locked(word) {
-                    return self.waits_for(side);
+                    return self.waits_at(side);
                 }
                 self.goes(WorkStage::Lock(LockStage::SetLock { side, head: word }))
             }
@@ -141,7 +141,7 @@ impl Work {
                 if word == head {
                     return self.locked(side, first_of(head));
                 }
-                self.waits_for(side)
+                self.waits_at(side)
             }
         }
     }
