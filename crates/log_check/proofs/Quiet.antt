@@ -1,5 +1,5 @@
 -- Where nothing is going on, by the events of a log.
-use Rattle.std.proofs.Common.{◌≡◌, ℕ, Bool, true, false, cond, List, [], ◌∷◌, ◌++◌, ◌&&◌, ◌||◌, drop, length, ◌≤◌, Option, Some, None, refl, sym, ap, subst, ◌∙◌, ◌↔◌}
+use Rattle.std.proofs.Common.{◌≡◌, ℕ, Bool, true, false, cond, List, [], ◌∷◌, ◌&&◌, drop, length, ◌≤◌, Option, Some, None, refl, sym, ap, subst, ◌∙◌, ◌↔◌}
 use Rattle.std.specs.Prelude.{nat_eq, is_none}
 use Rattle.std.specs.List.{list_all, list_any}
 use Rattle.std.proofs.lemmas.Bool.Decides.{Decides-eqb}
@@ -8,7 +8,7 @@ use Rattle.intern_log.specs.declared.event.Event.{Event}
 use Rattle.intern_log.specs.declared.event.What.{What}
 use Rattle.intern_log.specs.declared.event.What.TheVariants.{Create, Claim, Free, Lock, Unlock, Unlink, Level}
 use Rattle.intern_log.specs.Now.{Phase, Vacant, Claimed, Linked, Unlinked, OpenSection, Now, opening, now_after_event, now_after, now_of}
-use Rattle.intern_log.specs.Lawful.{IsLinkedDead, IsQuiet}
+use Rattle.intern_log.specs.Lawful.{IsLinkedDead}
 use Rattle.intern_log.proofs.Slots.{neither}
 use Rattle.intern_log.proofs.Graced.{otherwise, or_false}
 use Rattle.log_check.specs.declared.past.SlotPhase.{SlotPhase}

@@ -1,5 +1,5 @@
 -- A hash has 32 bits.
-use Rattle.std.proofs.Common.{◌≡◌, ℕ, ◌+◌, ◌*◌, ◌/◌, ◌%◌, ◌^◌, ◌<◌, Bool, true, false, cond, List, [], ◌∷◌, arith}
+use Rattle.std.proofs.Common.{ℕ, ◌+◌, ◌*◌, ◌/◌, ◌%◌, ◌<◌, Bool, true, false, cond, List, [], ◌∷◌, arith}
 use Rattle.std.specs.Prelude.{◌==◌, bit_xor, fold}
 use Rattle.std.proofs.lemmas.Nat.{xor_lt}
 use Rattle.text_words.specs.Hash.{hash_step, hash31, mix_step, mixture, hash_of}
