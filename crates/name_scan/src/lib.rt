@@ -72,7 +72,7 @@ impl Piece {
     /// How many bytes of the file the piece takes up.
     pub fn len(self) -> usize
         requires { piece_len self < 2 ^ 64 }
-        ensures { result ≡ piece_len self }
+        ensures length { result ≡ piece_len self }
     {
         match self {
             Piece::Skipped => 1,
@@ -85,7 +85,7 @@ impl Piece {
     /// The token of the piece where it begins at the place `at` of the file, if it has one.
     pub fn token(self, at: usize) -> Option<Token>
         requires { at + piece_len self < 2 ^ 64 }
-        ensures { result ≡ token_at at self }
+        ensures token { result ≡ token_at at self }
     {
         match self {
             Piece::Skipped | Piece::DigitRun(_) => None,
@@ -109,7 +109,7 @@ impl Piece {
 /// 128.
 #[tactic(auto, unfolding(crate::specs::Pieces::is_name_byte))]
 pub fn is_name_byte(byte: u8) -> bool
-    ensures { result ≡ is_name_byte byte }
+    ensures value { result ≡ is_name_byte byte }
 {
     byte.is_ascii_alphanumeric() || byte == b'_' || byte == b'$' || byte >= 128
 }
@@ -146,7 +146,7 @@ fn literal_text_len(behind: &[u8]) -> usize
 /// The piece with which the bytes begin.
 pub fn first_piece(bytes: &[u8]) -> Piece
     requires { 0 < length bytes.now }
-    ensures { IsPiece result bytes.now }
+    ensures piece { IsPiece result bytes.now }
 {
     let first = bytes[0];
     if first == QUOTE {

@@ -31,7 +31,7 @@ impl<R: rt::Files + Drop> Model for HostFiles<R> {
 impl<R: rt::Files + Drop> HostFiles<R> {
     /// No file is open, and no fault was met.
     pub fn new(rt: R) -> HostFiles<R>
-        ensures { result ≡ record { is_open = false; left = None; faults = 0 } }
+        ensures fresh { result ≡ record { is_open = false; left = None; faults = 0 } }
     {
         HostFiles {
             rt,

@@ -28,7 +28,7 @@ impl<R: Print + Drop> Model for HostSink<R> {
 impl<R: Print + Drop> HostSink<R> {
     /// No fault was met.
     pub fn new(rt: R) -> HostSink<R>
-        ensures { result ≡ 0 }
+        ensures fresh { result ≡ 0 }
     {
         HostSink { rt, faults: 0 }
     }

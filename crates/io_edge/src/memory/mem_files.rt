@@ -53,7 +53,7 @@ impl Model for MemFiles {
 impl MemFiles {
     /// No files. The calls of `open_file` and `read_some` with the listed numbers will fail.
     pub fn new(alloc: Global, failing: &[u64]) -> Result<MemFiles, AllocError>
-        ensures { IfOk result (λ state. state ≡ record {
+        ensures fresh { IfOk result (λ state. state ≡ record {
           files = [];
           calls = record { made = 0; failing = failing.now };
           faults = [];

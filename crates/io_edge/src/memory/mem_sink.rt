@@ -36,7 +36,7 @@ impl Model for MemSink {
 impl MemSink {
     /// An empty sink with room for that many bytes, whose writes with the listed numbers fail.
     pub fn new(alloc: Global, room: usize, failing: &[u64]) -> Result<MemSink, AllocError>
-        ensures { IfOk result (λ sink. sink ≡ record {
+        ensures fresh { IfOk result (λ sink. sink ≡ record {
           calls = record { made = 0; failing = failing.now };
           faults = 0;
           bytes = [];
@@ -53,7 +53,7 @@ impl MemSink {
 
     /// All bytes that were written so far.
     pub fn bytes(&self) -> &[u8]
-        ensures { result.now ≡ self.now.bytes }
+        ensures bytes { result.now ≡ self.now.bytes }
     {
         self.bytes.as_slice()
     }

@@ -17,17 +17,17 @@ with_token-census-requires-clause-few_literals c = omega (arith, literals_few _ 
 
 pub loop-at-preserved : goal.loop-at-preserved
 loop-at-preserved c =
-    let piece : IsPiece c.first_piece-piece.result (drop c.loop-at.at c.args.bytes.now) = rw take_rest at c.first_piece-piece.ensures in
+    let piece : IsPiece c.first_piece-piece.result (drop c.loop-at.at c.args.bytes.now) = rw take_rest at c.first_piece-piece.ensures.piece in
     let counted : CountsUpTo c.args.most c.args.bytes.now (c.loop-at.at + piece_len c.first_piece-piece.result) c.match-token.census = elim c.match-token.branch [
       | in-Some w ↦
           subst (λ (census : Census). CountsUpTo c.args.most c.args.bytes.now (c.loop-at.at + piece_len c.first_piece-piece.result) census) (sym w.census-is)
           (counts_token c.args.most c.args.bytes.now c.loop-at.at c.first_piece-piece.result w.in-Some.token c.loop-at.census w.with_token-census.result
-          c.loop-at.invariant piece w.in-Some.ensures w.with_token-census.ensures.names w.with_token-census.ensures.literals w.with_token-census.ensures.first_longer)
+          c.loop-at.invariant piece w.in-Some.ensures.token w.with_token-census.ensures.names w.with_token-census.ensures.literals w.with_token-census.ensures.first_longer)
       | in_default w ↦
           subst (λ (census : Census). CountsUpTo c.args.most c.args.bytes.now (c.loop-at.at + piece_len c.first_piece-piece.result) census) (sym w.census-is)
-          (counts_no_token c.args.most c.args.bytes.now c.loop-at.at c.first_piece-piece.result c.loop-at.census c.loop-at.invariant piece w.in_default.ensures)
+          (counts_no_token c.args.most c.args.bytes.now c.loop-at.at c.first_piece-piece.result c.loop-at.census c.loop-at.invariant piece w.in_default.ensures.token)
     ] in
-    rw c.len-at.ensures counted
+    rw c.len-at.ensures.length counted
 
 pub returns : goal.returns
 returns c =
