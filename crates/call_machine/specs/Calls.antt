@@ -1,67 +1,60 @@
--- The calls of readers and inserters, and those by handle: the step of each stage, and what comes of the word that it found.
-use Rattle.std.specs.Prelude.{ℕ, nat_le, if◌then◌else◌, Option, Some, None}
-use Rattle.text_words.specs.Hash.{hash31}
+-- The calls of readers and inserters, and those by handle: what each does at its stage.
+use Rattle.std.specs.Prelude.{ℕ, Option, Some, None}
+use Rattle.text_words.specs.Hash.{hash_of}
 use Rattle.marked_word.specs.Head.{first_of}
-use Rattle.table_shape.specs.declared.place.Place.TheVariants as place
-use Rattle.call_machine.specs.declared.call.Answer.TheVariants as answer
-use Rattle.call_machine.specs.declared.step.Plan.{Plan}
+use Rattle.intern_log.specs.declared.event.What.{What}
+use Rattle.atomic_step.specs.declared.plan.Plan.{Plan}
+use Rattle.call_machine.specs.declared.stage.Along.{Along}
+use Rattle.call_machine.specs.declared.stage.Asked.{Asked}
 use Rattle.call_machine.specs.declared.stage.Calling.{Calling}
 use Rattle.call_machine.specs.declared.stage.CallStage.{CallStage}
 use Rattle.call_machine.specs.declared.stage.CallStage.TheVariants as stage
-use Rattle.call_machine.specs.declared.step.Plan.TheVariants as plan
-use Rattle.call_machine.specs.declared.step.StepKind.TheVariants.{K1}
-use Rattle.call_machine.specs.declared.stage.DrawStage.{DrawStage}
-use Rattle.call_machine.specs.declared.stage.DrawStage.TheVariants.{Load, Add}
-use Rattle.call_machine.specs.declared.stage.FindStage.{FindStage}
-use Rattle.call_machine.specs.Steps.{loads, adds}
-use Rattle.call_machine.specs.Find.{find_plan, find_next, find_walk}
-use Rattle.call_machine.specs.Leave.{goes_to, leave_plan, leave_got}
-use Rattle.call_machine.specs.Enter.{enter_plan, enter_got}
-use Rattle.call_machine.specs.Nodes.{node_plan, node_got, comes_to}
-use Rattle.call_machine.specs.Handles.{handle_plan, handle_got}
-use Rattle.call_machine.specs.Reads.{read_plan, read_got}
-
--- a split loads how many numbers were drawn, and draws one more
-abbrev pub draw_plan : DrawStage → Plan
-draw_plan Load = loads K1 place.Draws
-draw_plan Add = adds K1 place.Draws 1
-
-abbrev pub draw_got : Calling → DrawStage → ℕ → Calling
-draw_got c Load word = goes_to c (if nat_le c.shape.seats word then stage.Answered answer.SeatsSpent else stage.Draw Add)
-draw_got c Add word = goes_to c (stage.Answered (if nat_le c.shape.seats word then answer.SeatsSpent else answer.Split word))
+use Rattle.call_machine.specs.declared.find.FindStage.{FindStage}
+use Rattle.call_machine.specs.declared.find.Walk.{Walk}
+use Rattle.atomic_step.specs.Turn.{map_row, Turn, Answered, Makes, plan_in, next_in, event_by}
+use Rattle.call_machine.specs.Draw.{draw_row}
+use Rattle.call_machine.specs.Find.{find_row}
+use Rattle.call_machine.specs.Leave.{leave_row}
+use Rattle.call_machine.specs.Insert.{insert_row}
+use Rattle.call_machine.specs.Node.{node_row, comes_to}
+use Rattle.call_machine.specs.Handle.{handle_row}
+use Rattle.call_machine.specs.Read.{read_row}
 
 -- the head is still to be found, or it was and the walk begins at its first node
-abbrev pub finds : Calling → ℕ → Option FindStage → CallStage
-finds c head (Some s) = stage.Find s
-finds c head None = comes_to c head (first_of head)
+abbrev pub finds : Asked → Along → ℕ → Option FindStage → CallStage
+finds q w head (Some s) = stage.Find s
+finds q w head None = comes_to q w head (first_of head)
 
-abbrev pub find_got : Calling → FindStage → ℕ → Calling
-find_got c s word = record c { walk = find_walk (hash31 c.text) c.walk s word; stage = finds c word (find_next s word) }
+abbrev pub found : Asked → Along → Walk × Option FindStage → Along × CallStage
+found q w at = (record w { walk = at.0 }, finds q w at.0.head at.1)
 
--- what comes next
-abbrev pub plan_at : Calling → CallStage → Plan
-plan_at c (stage.Answered a) = plan.Answered a
-plan_at c (stage.Draw s) = draw_plan s
-plan_at c (stage.Find s) = find_plan c.number c.walk s
-plan_at c (stage.Node s) = node_plan s
-plan_at c (stage.Enter s) = enter_plan c s
-plan_at c (stage.Leave s) = leave_plan c.number s
-plan_at c (stage.Handle s) = handle_plan c.handle s
-plan_at c (stage.Read s) = read_plan c.number c.handle s
+-- what each stage does
+abbrev pub turn_at : Asked → Along → CallStage → Turn (Along × CallStage)
+turn_at q w (stage.Answered a) = Answered a
+turn_at q w (stage.Draw s) = Makes (draw_row q w s)
+turn_at q w (stage.Find s) = Makes (map_row (found q w) (find_row q.number (hash_of q.seed q.text) w.walk s))
+turn_at q w (stage.Node s) = Makes (node_row q w s)
+turn_at q w (stage.Insert s) = Makes (insert_row q w s)
+turn_at q w (stage.Leave s) = Makes (leave_row q w s)
+turn_at q w (stage.Handle s) = Makes (handle_row q w s)
+turn_at q w (stage.Read s) = Makes (read_row q w s)
 
+-- what comes next, and what comes of the word that the step finds
+abbrev pub plan_at : Asked → Along → CallStage → Plan
+plan_at q w s = plan_in (turn_at q w s)
+
+abbrev pub next_at : Asked → Along → CallStage → ℕ → Along × CallStage
+next_at q w s word = next_in (w, s) (turn_at q w s) word
+
+-- the same of a call, and the event of its step
 abbrev pub plan_of : Calling → Plan
-plan_of c = plan_at c c.stage
+plan_of c = plan_at c.asked c.along c.stage
 
--- what comes of the word that the step found
-abbrev pub got_at : Calling → CallStage → ℕ → Calling
-got_at c (stage.Answered a) word = c
-got_at c (stage.Draw s) word = draw_got c s word
-got_at c (stage.Find s) word = find_got c s word
-got_at c (stage.Node s) word = node_got c s word
-got_at c (stage.Enter s) word = enter_got c s word
-got_at c (stage.Leave s) word = leave_got c s word
-got_at c (stage.Handle s) word = handle_got c s word
-got_at c (stage.Read s) word = read_got c s word
+abbrev pub goes_to : Asked → Along × CallStage → Calling
+goes_to q at = record { asked = q; along = at.0; stage = at.1 }
 
 abbrev pub got_of : Calling → ℕ → Calling
-got_of c word = got_at c c.stage word
+got_of c word = goes_to c.asked (next_at c.asked c.along c.stage word)
+
+abbrev pub event_of : Calling → ℕ → Option What
+event_of c word = event_by c.asked.text (plan_of c) word

@@ -1,39 +1,25 @@
--- What a call that begins a work or a grace may be, and which words it may be told.
-use Rattle.std.specs.Prelude.{◌≢◌, ℕ, ◌<◌}
+-- What a call that begins a work or a grace may be.
+use Rattle.std.specs.Prelude.{ℕ, ◌<◌}
 use Rattle.table_shape.specs.declared.shape.Shape.{Shape}
+use Rattle.atomic_step.specs.SoundStep.{IsSoundPlan, CanFollow}
 use Rattle.call_machine.specs.declared.begin.Beginning.{Beginning}
-use Rattle.call_machine.specs.declared.begin.BeginStage.{BeginStage}
-use Rattle.call_machine.specs.declared.begin.BeginStage.TheVariants as stage
-use Rattle.call_machine.specs.declared.work.Task.TheVariants.{Sweep}
-use Rattle.call_machine.specs.SoundCall.{IsSoundCaller, IsLevel, IsCounter}
-use Rattle.call_machine.specs.SoundWork.{LeadsToLevel}
+use Rattle.call_machine.specs.declared.begin.Left.{Left}
+use Rattle.call_machine.specs.declared.begin.Left.TheVariants as left
+use Rattle.call_machine.specs.Begin.{begin_plan, left_of}
+use Rattle.call_machine.specs.Caller.{IsSoundCaller}
+use Rattle.call_machine.specs.SoundResize.{LeadsToLevel}
 
--- what each stage has
-abbrev pub IsSoundBeginStage : Shape → BeginStage → Type 0
-IsSoundBeginStage shape (stage.CheckWork task) = task ≢ Sweep
-IsSoundBeginStage shape (stage.TakeResize task) = task ≢ Sweep
-IsSoundBeginStage shape (stage.LoadBound task) = task ≢ Sweep
-IsSoundBeginStage shape (stage.ScanGrace grace) = grace.next < shape.seats
-IsSoundBeginStage shape (stage.Began task level) = (task ≢ Sweep) × IsLevel shape level × LeadsToLevel shape task level
-IsSoundBeginStage shape (stage.BeganGrace grace) = grace.next < shape.seats
-IsSoundBeginStage shape (stage.Waits grace) = grace.next < shape.seats
-IsSoundBeginStage shape _ = Unit {0}
+-- a resize begins at a level that can rise or fall, and a grace waits for a number of the table
+abbrev pub IsSoundLeft : Shape → Left → Type 0
+IsSoundLeft shape (left.Resize d level) = LeadsToLevel shape d level
+IsSoundLeft shape (left.Grace g) = g.next < shape.seats
+IsSoundLeft shape _ = Unit {0}
 
 pub record IsSoundBegin (b : Beginning) : Type 0 where
   pub caller : IsSoundCaller b.caller
-  pub stage : IsSoundBeginStage b.caller.shape b.stage
+  pub plan : IsSoundPlan b.caller.shape b.caller.number (begin_plan b)
+  pub left : IsSoundLeft b.caller.shape (left_of b.stage)
 
--- the word can stand where the next step looks
-abbrev pub FitsBeginStage : Shape → BeginStage → ℕ → Type 0
-FitsBeginStage shape (stage.CheckWork task) word = IsCounter word
-FitsBeginStage shape stage.CheckGrace word = IsCounter word
-FitsBeginStage shape (stage.LoadBound task) word = IsLevel shape word
-FitsBeginStage shape stage.RaiseGrace word = IsCounter word
-FitsBeginStage shape (stage.Began task level) word = ⊥
-FitsBeginStage shape (stage.BeganGrace grace) word = ⊥
-FitsBeginStage shape (stage.Waits grace) word = ⊥
-FitsBeginStage shape (stage.Answered a) word = ⊥
-FitsBeginStage shape _ word = Unit {0}
-
+-- the next step may find the word
 abbrev pub FitsBegin : Beginning → ℕ → Type 0
-FitsBegin b word = FitsBeginStage b.caller.shape b.stage word
+FitsBegin b word = CanFollow b.caller.shape (begin_plan b) word

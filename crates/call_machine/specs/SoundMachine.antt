@@ -1,31 +1,32 @@
--- What a seat may have of its own, which calls it may make then, and which words a machine may be told.
-use Rattle.std.specs.Prelude.{◌≡◌, ◌≢◌, ℕ, ◌<◌, Option, Some, None, IfSome}
+-- What a seat may have of its own, which calls it may make then, what a machine may be, and which words it may be told.
+use Rattle.std.specs.Prelude.{◌≡◌, ℕ, ◌<◌, Bool, true, false, Option, IfSome, is_some}
 use Rattle.table_shape.specs.declared.shape.Shape.{Shape}
 use Rattle.intern_log.specs.declared.event.Kind.{Kind}
 use Rattle.intern_log.specs.declared.event.Kind.TheVariants.{Counted, Weak}
+use Rattle.atomic_step.specs.SoundStep.{CanFollow}
 use Rattle.call_machine.specs.declared.call.Call.{Call}
 use Rattle.call_machine.specs.declared.call.Call.TheVariants as call
+use Rattle.call_machine.specs.declared.grace.Grace.{Grace}
 use Rattle.call_machine.specs.declared.machine.Machine.{Machine}
 use Rattle.call_machine.specs.declared.machine.Machine.TheVariants as machine
 use Rattle.call_machine.specs.declared.machine.Own.{Own}
-use Rattle.call_machine.specs.declared.work.Grace.{Grace}
-use Rattle.call_machine.specs.declared.work.Task.TheVariants.{Sweep}
-use Rattle.call_machine.specs.declared.work.Work.{Work}
-use Rattle.call_machine.specs.SoundBegin.{FitsBegin}
-use Rattle.call_machine.specs.SoundCall.{IsHandle, FitsCall}
-use Rattle.call_machine.specs.SoundPoll.{FitsPoll}
-use Rattle.call_machine.specs.SoundSweep.{FitsSweep}
-use Rattle.call_machine.specs.SoundWork.{IsSoundWork}
+use Rattle.call_machine.specs.Machine.{shape_of, plan_of}
+use Rattle.call_machine.specs.SoundBegin.{IsSoundBegin}
+use Rattle.call_machine.specs.SoundCall.{IsHandle, IsSoundCall}
+use Rattle.call_machine.specs.SoundPoll.{IsSoundPoll}
+use Rattle.call_machine.specs.SoundSweep.{IsSoundSweep}
+use Rattle.call_machine.specs.Work.{IsSoundWork}
 
--- a work that a poll may go on with names only slots, rows and buckets of the table, and a grace only its numbers
-abbrev pub IsUnfinished : Shape → Work → Type 0
-IsUnfinished shape w = IsSoundWork shape w × (w.task ≢ Sweep)
+-- the seat's number, slot and grace are of the table
+abbrev pub IsGraceOf : Shape → Option Grace → Type 0
+IsGraceOf shape grace = IfSome grace (λ g. g.next < shape.seats)
 
-pub record IsSoundOwn (shape : Shape) (own : Own) : Type 0 where
-  pub number : own.number < shape.seats
-  pub cursor : own.cursor < shape.slots
-  pub work : IfSome own.work (IsUnfinished shape)
-  pub grace : IfSome own.grace (λ grace. grace.next < shape.seats)
+abbrev pub IsInsideOwn : Shape → Own → Type 0
+IsInsideOwn shape own = (own.number < shape.seats) × (own.cursor < shape.slots) × IsGraceOf shape own.grace
+
+-- and its unfinished work names only slots, rows and buckets of the table
+abbrev pub IsSoundOwn : Shape → Own → Type 0
+IsSoundOwn shape own = IsInsideOwn shape own × IfSome own.work (IsSoundWork shape)
 
 -- the handle of a call, if it has one, is of a slot of the table
 abbrev pub HasHandle : Shape → Call → Type 0
@@ -35,28 +36,32 @@ HasHandle shape (call.Permanent h) = IsHandle shape h
 HasHandle shape (call.Kill h) = IsHandle shape h
 HasHandle shape _ = Unit {0}
 
--- the seat has nothing unfinished
-abbrev pub IsIdle : Option Work → Option Grace → Type 0
-IsIdle None None = Unit {0}
-IsIdle _ _ = ⊥
+-- which calls are made in a table of a kind, by whether the seat has a work or a grace unfinished
+abbrev pub IsIdle : Bool → Bool → Type 0
+IsIdle work grace = (work ≡ false) × (grace ≡ false)
 
--- the parts of a call's condition that speak of the kind of the table and of what is unfinished
-abbrev pub MayStart : Kind → Option Work → Option Grace → Call → Type 0
-MayStart kind work grace call.Split = IsIdle work grace
-MayStart kind work grace (call.Intern text) = Unit {0}
-MayStart kind work grace (call.Lookup text) = Unit {0}
-MayStart kind work grace (call.InternWait text) = IsIdle work grace
-MayStart kind work grace (call.TextOf h) = Unit {0}
-MayStart kind work grace (call.Drop h) = kind ≡ Counted
-MayStart kind work grace (call.Permanent h) = kind ≡ Counted
-MayStart kind work grace (call.Kill h) = kind ≡ Weak
-MayStart kind work grace call.PollWork = (w : Work) × (work ≡ Some w)
-MayStart kind work grace call.PollGrace = (g : Grace) × (grace ≡ Some g)
-MayStart kind work grace _ = IsIdle work grace
+abbrev pub IsAllowed : Kind → Bool → Bool → Call → Type 0
+IsAllowed kind work grace (call.Intern text) = Unit {0}
+IsAllowed kind work grace (call.Lookup text) = Unit {0}
+IsAllowed kind work grace (call.TextOf h) = Unit {0}
+IsAllowed kind work grace (call.Drop h) = kind ≡ Counted
+IsAllowed kind work grace (call.Permanent h) = kind ≡ Counted
+IsAllowed kind work grace (call.Kill h) = kind ≡ Weak
+IsAllowed kind work grace call.PollWork = work ≡ true
+IsAllowed kind work grace call.PollGrace = grace ≡ true
+IsAllowed kind work grace _ = IsIdle work grace
 
--- the word can stand where the next step looks, and there is one
+-- the call may start, as far as it can be tested
+abbrev pub MayStart : Kind → Shape → Own → Call → Type 0
+MayStart kind shape own c = IsInsideOwn shape own × HasHandle shape c × IsAllowed kind (is_some own.work) (is_some own.grace) c
+
+-- a machine on its way; beside a try call stands what its seat has unfinished
+abbrev pub IsSoundMachine : Machine → Type 0
+IsSoundMachine (machine.Call c work grace) = IsSoundCall c × IfSome work (IsSoundWork c.asked.shape) × IsGraceOf c.asked.shape grace
+IsSoundMachine (machine.Begin b) = IsSoundBegin b
+IsSoundMachine (machine.Poll p) = IsSoundPoll p
+IsSoundMachine (machine.Sweep s) = IsSoundSweep s
+
+-- the next step may find the word
 abbrev pub FitsMachine : Machine → ℕ → Type 0
-FitsMachine (machine.Call c work grace) word = FitsCall c word
-FitsMachine (machine.Begin b) word = FitsBegin b word
-FitsMachine (machine.Poll p) word = FitsPoll p word
-FitsMachine (machine.Sweep s) word = FitsSweep s word
+FitsMachine m word = CanFollow (shape_of m) (plan_of m) word

@@ -1,13 +1,15 @@
 -- What a poll of a work may be, and which words it may be told.
-use Rattle.std.specs.Prelude.{◌≡◌, ℕ, None}
+use Rattle.std.specs.Prelude.{ℕ}
+use Rattle.atomic_step.specs.SoundStep.{CanFollow}
 use Rattle.call_machine.specs.declared.poll.Polling.{Polling}
-use Rattle.call_machine.specs.SoundCall.{IsSoundCaller}
-use Rattle.call_machine.specs.SoundWork.{IsSoundWork, FitsWork}
+use Rattle.call_machine.specs.Caller.{IsSoundCaller}
+use Rattle.call_machine.specs.Poll.{poll_plan}
+use Rattle.call_machine.specs.Work.{IsSoundWork}
 
 pub record IsSoundPoll (p : Polling) : Type 0 where
   pub caller : IsSoundCaller p.caller
   pub work : IsSoundWork p.caller.shape p.work
 
--- the word can stand where the next step looks, and there is one
+-- the next step may find the word
 abbrev pub FitsPoll : Polling → ℕ → Type 0
-FitsPoll p word = (p.answer ≡ None) × FitsWork p.caller.shape p.work word
+FitsPoll p word = CanFollow p.caller.shape (poll_plan p) word

@@ -1,36 +1,35 @@
 -- What a sweep on its way may be, and which words it may be told.
-use Rattle.std.specs.Prelude.{◌≡◌, ℕ, ◌%◌, []}
-use Rattle.call_machine.specs.declared.sweep.Sweeping.{Sweeping}
+use Rattle.std.specs.Prelude.{◌≡◌, ℕ, ◌<◌, [], length}
+use Rattle.atomic_step.specs.SoundStep.{IsSoundPlan, CanFollow}
+use Rattle.call_machine.specs.declared.pass.Cleaning.{Cleaning}
+use Rattle.call_machine.specs.declared.sweep.SweepAlong.{SweepAlong}
+use Rattle.call_machine.specs.declared.sweep.SweepAsked.{SweepAsked}
 use Rattle.call_machine.specs.declared.sweep.SweepStage.{SweepStage}
-use Rattle.call_machine.specs.declared.sweep.SweepStage.TheVariants.{Check, Find, SetLock, Retry, Bucket, Spent}
-use Rattle.call_machine.specs.declared.work.Task.TheVariants.{Sweep}
-use Rattle.call_machine.specs.SoundCall.{IsCounter, IsHeadWord, IsInChain, IsSoundFind, FitsFind}
-use Rattle.call_machine.specs.SoundPoll.{IsSoundPoll, FitsPoll}
+use Rattle.call_machine.specs.declared.sweep.SweepStage.TheVariants.{Pass, UnlockHead, Grace, Free}
+use Rattle.call_machine.specs.declared.sweep.Sweeping.{Sweeping}
+use Rattle.call_machine.specs.Caller.{IsSoundCaller}
+use Rattle.call_machine.specs.SoundPass.{IsSoundCleaning, IsSoundPass, IsSoundFree}
+use Rattle.call_machine.specs.Sweep.{plan_at, sweep_plan}
 
--- the work has not begun
-abbrev pub IsIdle : Sweeping → Type 0
-IsIdle s = (s.poll.work.task ≡ Sweep) × (s.poll.work.waiting.items ≡ [])
+-- what a stage has beside its step: room for one more slot where the bucket is cleaned, slots that wait where the grace is for
+-- them, and none before and after
+abbrev pub IsSoundAt : Cleaning → SweepStage → Type 0
+IsSoundAt c (Pass s) = IsSoundPass c s
+IsSoundAt c UnlockHead = Unit {0}
+IsSoundAt c (Grace s) = 0 < length c.waiting.items
+IsSoundAt c (Free s) = IsSoundFree c s
+IsSoundAt c _ = c.waiting.items ≡ []
 
--- what each stage has
-abbrev pub IsSoundSweepStage : Sweeping → SweepStage → Type 0
-IsSoundSweepStage s Check = IsIdle s
-IsSoundSweepStage s (Find f) = IsIdle s × IsSoundFind s.poll.caller.shape s.walk f
-IsSoundSweepStage s SetLock = IsIdle s × IsInChain s.poll.caller.shape s.walk × (s.walk.head % 2 ≡ 0)
-IsSoundSweepStage s Retry = IsIdle s
-IsSoundSweepStage s _ = Unit {0}
+-- a sweep at a stage
+pub record IsSoundSweepAt (q : SweepAsked) (w : SweepAlong) (s : SweepStage) : Type 0 where
+  pub caller : IsSoundCaller q.caller
+  pub cleaning : IsSoundCleaning q.caller.shape w.cleaning
+  pub at : IsSoundAt w.cleaning s
+  pub plan : IsSoundPlan q.caller.shape q.caller.number (plan_at q w s)
 
-pub record IsSoundSweep (s : Sweeping) : Type 0 where
-  pub poll : IsSoundPoll s.poll
-  pub stage : IsSoundSweepStage s s.stage
+abbrev pub IsSoundSweep : Sweeping → Type 0
+IsSoundSweep s = IsSoundSweepAt s.asked s.along s.stage
 
--- the word can stand where the next step looks, and there is one
-abbrev pub FitsSweepStage : Sweeping → SweepStage → ℕ → Type 0
-FitsSweepStage s Check word = IsCounter word
-FitsSweepStage s (Find f) word = FitsFind s.poll.caller.shape f word
-FitsSweepStage s SetLock word = IsHeadWord s.poll.caller.shape word
-FitsSweepStage s Bucket word = FitsPoll s.poll word
-FitsSweepStage s (Spent counter) word = ⊥
-FitsSweepStage s _ word = Unit {0}
-
+-- the next step may find the word
 abbrev pub FitsSweep : Sweeping → ℕ → Type 0
-FitsSweep s word = FitsSweepStage s s.stage word
+FitsSweep s word = CanFollow s.asked.caller.shape (sweep_plan s) word

@@ -1,45 +1,51 @@
-//! The machine of the calls that begin a work or a grace, and of a grace on its way.
-ghost use Rattle.std.specs.Prelude.{◌≡◌, ◌≢◌, ◌<◌};
-ghost use Rattle.call_machine.specs.Begins as begins;
-ghost use Rattle.call_machine.specs.Steps.{want_of};
+//! The calls that begin a clean, a grow, a shrink or a grace, and the poll of a grace.
+ghost use Rattle.std.specs.Prelude.{◌≡◌, ◌<◌, Option, Some, None};
+ghost use Rattle.atomic_step.specs.SoundStep.{IsSoundPlan};
+ghost use Rattle.call_machine.specs.Begin as begins;
+ghost use Rattle.call_machine.specs.Caller.{IsSoundCaller};
 ghost use Rattle.call_machine.specs.SoundBegin.{IsSoundBegin, FitsBegin};
-ghost use Rattle.call_machine.specs.SoundCall.{IsSoundCaller, IsLevel};
 
-use crate::call::Answer;
-use crate::stage::Caller;
-use crate::step::{StepKind, Want, add, exchange, load, store};
-use crate::work::{Grace, Task};
-use section_core::waits_for;
+use crate::caller::Caller;
+use crate::grace::{Grace, GraceStage, Gracing};
+use crate::resize::Direction;
+use atomic_step::{Answer, Plan, Shape, Step};
 use std::marker::Model;
-use table_shape::{Place, Shape};
-
-mod told;
 
 /// The value of the grace counter from which on nothing begins any more.
 pub const SPENT: u64 = 1 << 48;
 
-/// Where a call stands that begins a work or a grace, or looks after a grace.
+/// Which work is to begin.
+#[derive(Clone, Copy, Debug, PartialEq, Eq)]
+pub enum Task {
+    Clean,
+    Grow,
+    Shrink,
+}
+
+/// What such a call leaves its seat unfinished.
+#[derive(Clone, Copy, Debug, PartialEq, Eq)]
+pub enum Left {
+    Nothing,
+    /// A clean has begun.
+    Clean,
+    /// A grow or a shrink has begun, from this level.
+    Resize { direction: Direction, level: u8 },
+    /// A grace has begun, or waits for a section.
+    Grace(Grace),
+}
+
+/// Where a call stands that begins a work or a grace, or polls a grace.
 #[derive(Clone, Copy, Debug, PartialEq, Eq)]
 pub enum BeginStage {
-    /// The counter is loaded.
-    CheckWork { task: Task },
-    CheckGrace,
-    /// The resize lock is taken.
-    TakeResize { task: Task },
-    /// The level is loaded, and where it is at its bound the lock given back.
-    LoadBound { task: Task },
-    GiveBound { answer: Answer },
-    /// The counter is raised.
-    RaiseGrace,
-    /// The section word of the next number is loaded.
-    ScanGrace { grace: Grace },
-    /// The work has begun: a grow or a shrink at this level. A clean loads the level later, and has the least one here.
-    Began { task: Task, level: u8 },
-    /// The grace has begun.
-    BeganGrace { grace: Grace },
-    /// The grace waits for the section of its next number.
-    Waits { grace: Grace },
-    Answered(Answer),
+    /// Before the work of this task, or before a grace.
+    LoadCounter { task: Option<Task> },
+    TakeResizeLock { task: Task },
+    /// A grow or a shrink has the resize lock.
+    LoadLevel { direction: Direction },
+    /// The level is at its bound, which is the answer.
+    GiveResizeLock { answer: Answer },
+    Grace { grace: Grace, stage: GraceStage },
+    Answered { answer: Answer, left: Left },
 }
 
 /// What contracts see of such a call. No value of it is made.
@@ -48,7 +54,7 @@ pub struct Beginning {
     pub stage: BeginStage,
 }
 
-/// A call that begins a work or a grace, or looks after a grace.
+/// A call that begins a work or a grace, or polls a grace.
 #[derive(Drop)]
 pub struct BeginMachine {
     caller: Caller,
@@ -57,7 +63,7 @@ pub struct BeginMachine {
 
 impl Model for BeginMachine {
     ghost use Rattle.call_machine.specs.declared.begin.Beginning.{Beginning};
-    ghost use Rattle.call_machine.specs.SoundBegin.{IsSoundBegin};
+    ghost use Rattle.call_machine.specs.SoundBegin.{IsSoundBegin, FitsBegin};
 
     ghost Value = { Beginning };
 
@@ -66,114 +72,124 @@ impl Model for BeginMachine {
     ghost invariant = { λ m. IsSoundBegin (record { caller = m.caller; stage = m.stage }) };
 }
 
-/// What comes once the level was loaded under the resize lock.
-fn bounded(shape: &Shape, task: Task, level: u8) -> BeginStage
-    ensures value { result ≡ begins.bounded shape.now task level }
+/// The call has answered, and leaves nothing unfinished.
+fn answers(answer: Answer) -> BeginStage
+    ensures value { result ≡ begins.answers answer }
+{
+    BeginStage::Answered {
+        answer,
+        left: Left::Nothing,
+    }
+}
+
+/// A work has begun.
+fn begun(left: Left) -> BeginStage
+    ensures value { result ≡ begins.begun left }
+{
+    BeginStage::Answered {
+        answer: Answer::Begun,
+        left,
+    }
+}
+
+/// The counter was loaded.
+fn counted(task: Option<Task>, counter: u64) -> BeginStage
+    ensures value { result ≡ begins.counted task counter }
 {
     match task {
-        Task::Grow if level == shape.max_level => BeginStage::GiveBound {
+        _ if counter >= SPENT => answers(Answer::Spent { counter }),
+        Some(task) => BeginStage::TakeResizeLock { task },
+        None => BeginStage::Grace {
+            grace: Grace::NONE,
+            stage: GraceStage::RaiseCounter,
+        },
+    }
+}
+
+/// The resize lock is taken: a clean has begun, and the others look at the level.
+fn taken(task: Task) -> BeginStage
+    ensures value { result ≡ begins.taken task }
+{
+    let direction = match task {
+        Task::Clean => return begun(Left::Clean),
+        Task::Grow => Direction::Grow,
+        Task::Shrink => Direction::Shrink,
+    };
+    BeginStage::LoadLevel { direction }
+}
+
+/// The level was loaded: at its bound the resize lock is given back.
+fn bounded(shape: &Shape, direction: Direction, level: u8) -> BeginStage
+    ensures value { result ≡ begins.bounded shape.now direction level }
+{
+    match direction {
+        Direction::Grow if level == shape.max_level => BeginStage::GiveResizeLock {
             answer: Answer::AtMaximum { level },
         },
-        Task::Shrink if level == shape.min_level => BeginStage::GiveBound {
+        Direction::Shrink if level == shape.min_level => BeginStage::GiveResizeLock {
             answer: Answer::AtMinimum { level },
         },
-        Task::Clean | Task::Grow | Task::Shrink | Task::Sweep => BeginStage::Began { task, level },
+        _ => begun(Left::Resize { direction, level }),
     }
 }
 
-/// What comes once the resize lock is taken: a clean has begun, and the others look at the level.
-fn taken(shape: &Shape, task: Task) -> BeginStage
-    ensures value { result ≡ begins.taken shape.now task }
+/// The grace has gone a step: it begins with the raised counter, and is over once no section is waited for.
+fn graced(stage: GraceStage, grace: Grace, gracing: Gracing) -> BeginStage
+    ensures value { result ≡ begins.graced stage grace gracing }
 {
-    match task {
-        Task::Clean | Task::Sweep => BeginStage::Began {
-            task,
-            level: shape.min_level,
+    match (stage, gracing) {
+        (GraceStage::RaiseCounter, _) => begun(Left::Grace(grace)),
+        (GraceStage::LoadSection, Gracing::Goes) => BeginStage::Grace { grace, stage },
+        (GraceStage::LoadSection, Gracing::Waits) => BeginStage::Answered {
+            answer: Answer::PendingSeat { seat: grace.next },
+            left: Left::Grace(grace),
         },
-        Task::Grow | Task::Shrink => BeginStage::LoadBound { task },
-    }
-}
-
-/// What comes once the section word of a grace's next number was loaded.
-fn scanned(seats: u32, grace: Grace, word: u64) -> BeginStage
-    requires inside { grace.next < seats }
-    ensures value { result ≡ begins.scanned seats grace word }
-{
-    if waits_for(grace.raised, word) {
-        return BeginStage::Waits { grace };
-    }
-    let next = grace.next + 1;
-    if next == seats {
-        BeginStage::Answered(Answer::Ready)
-    } else {
-        BeginStage::ScanGrace {
-            grace: Grace { next, ..grace },
-        }
+        (GraceStage::LoadSection, Gracing::Over) => answers(Answer::Ready),
     }
 }
 
 impl BeginMachine {
-    /// A clean, a grow or a shrink is to begin.
-    pub fn work(caller: Caller, task: Task) -> BeginMachine
+    /// A work of this task is to begin, or a grace.
+    pub fn begin(caller: Caller, task: Option<Task>) -> BeginMachine
         requires caller { IsSoundCaller caller }
-        requires task { task ≢ Task.Sweep }
-        ensures value { result ≡ begins.begun_begin caller (BeginStage.CheckWork task) }
+        ensures value { result ≡ begins.begins caller task }
     {
         BeginMachine {
             caller,
-            stage: BeginStage::CheckWork { task },
+            stage: BeginStage::LoadCounter { task },
         }
     }
 
-    /// A grace is to begin.
-    pub fn grace(caller: Caller) -> BeginMachine
-        requires caller { IsSoundCaller caller }
-        ensures value { result ≡ begins.begun_begin caller BeginStage.CheckGrace }
-    {
-        BeginMachine {
-            caller,
-            stage: BeginStage::CheckGrace,
-        }
-    }
-
-    /// A grace is looked after.
+    /// A grace is polled.
     pub fn poll(caller: Caller, grace: Grace) -> BeginMachine
         requires caller { IsSoundCaller caller }
         requires grace { grace.next < caller.shape.seats }
-        ensures value { result ≡ begins.begun_begin caller (BeginStage.ScanGrace grace) }
+        ensures value { result ≡ begins.polls_grace caller grace }
     {
         BeginMachine {
             caller,
-            stage: BeginStage::ScanGrace { grace },
+            stage: BeginStage::Grace {
+                grace,
+                stage: GraceStage::LoadSection,
+            },
         }
     }
 
-    /// What the call wants: its next step, or nothing any more.
-    pub fn want(&self) -> Want
-        ensures value { result ≡ want_of self.now.caller.shape (begins.begin_plan self.now) }
-        ensures sound { IsSoundBegin self.now }
+    /// What comes next.
+    pub fn plan(&self) -> Plan
+        ensures value { result ≡ begins.begin_plan self.now }
+        ensures sound { IsSoundPlan self.now.caller.shape self.now.caller.number result }
     {
-        let shape = &self.caller.shape;
-        let number = u64::from(self.caller.number);
-        match self.stage {
-            BeginStage::CheckWork { .. } | BeginStage::CheckGrace => {
-                load(shape, StepKind::K9, Place::Counter)
-            }
-            BeginStage::TakeResize { .. } => {
-                exchange(shape, StepKind::K17, Place::ResizeLock, 0, number + 1)
-            }
-            BeginStage::LoadBound { .. } => load(shape, StepKind::K19, Place::Level),
-            BeginStage::GiveBound { .. } => store(shape, StepKind::K18, Place::ResizeLock, 0),
-            BeginStage::RaiseGrace => add(shape, StepKind::K12, Place::Counter, 2),
-            BeginStage::ScanGrace { grace } => {
-                load(shape, StepKind::K13, Place::Section(grace.next))
-            }
-            BeginStage::Began { .. } | BeginStage::BeganGrace { .. } => {
-                Want::Answered(Answer::Begun)
-            }
-            BeginStage::Waits { grace } => Want::Answered(Answer::PendingSeat { seat: grace.next }),
-            BeginStage::Answered(answer) => Want::Answered(answer),
-        }
+        Plan::Step(match self.stage {
+            BeginStage::LoadCounter { .. } => Step::LoadCounter,
+            BeginStage::TakeResizeLock { .. } => Step::TakeResizeLock {
+                number: self.caller.number,
+            },
+            BeginStage::LoadLevel { .. } => Step::LoadLevel,
+            BeginStage::GiveResizeLock { .. } => Step::GiveResizeLock,
+            BeginStage::Grace { grace, stage } => grace.step(stage),
+            BeginStage::Answered { answer, .. } => return Plan::Answered(answer),
+        })
     }
 
     /// Takes the word that the step found; for a store any word.
@@ -183,37 +199,34 @@ impl BeginMachine {
     {
         let shape = self.caller.shape;
         self.stage = match self.stage {
-            BeginStage::CheckWork { .. } | BeginStage::CheckGrace if word >= SPENT => {
-                BeginStage::Answered(Answer::Spent { counter: word })
+            BeginStage::LoadCounter { task } => counted(task, word),
+            BeginStage::TakeResizeLock { task } if word == 0 => taken(task),
+            BeginStage::TakeResizeLock { .. } => answers(Answer::Busy),
+            BeginStage::LoadLevel { direction } => bounded(&shape, direction, word as u8),
+            BeginStage::GiveResizeLock { answer } => answers(answer),
+            BeginStage::Grace { grace, stage } => {
+                let (grace, gracing) = grace.next(shape.seats, stage, word);
+                graced(stage, grace, gracing)
             }
-            BeginStage::CheckWork { task } => BeginStage::TakeResize { task },
-            BeginStage::CheckGrace => BeginStage::RaiseGrace,
-            BeginStage::TakeResize { task } if word == 0 => taken(&shape, task),
-            BeginStage::TakeResize { .. } => BeginStage::Answered(Answer::Busy),
-            BeginStage::LoadBound { task } => bounded(&shape, task, word as u8),
-            BeginStage::GiveBound { answer } => BeginStage::Answered(answer),
-            BeginStage::RaiseGrace => BeginStage::BeganGrace {
-                grace: Grace {
-                    raised: word + 2,
-                    next: 0,
-                },
-            },
-            BeginStage::ScanGrace { grace } => scanned(shape.seats, grace, word),
-            answered => answered,
+            BeginStage::Answered { .. } => unreachable!(),
         };
     }
 
     /// Who calls.
     pub fn caller(&self) -> Caller
         ensures value { result ≡ self.now.caller }
+        ensures sound { IsSoundCaller result }
     {
         self.caller
     }
 
-    /// Where the call stands at last.
-    pub fn stage(&self) -> BeginStage
-        ensures value { result ≡ self.now.stage }
+    /// What the call leaves its seat unfinished.
+    pub fn left(&self) -> Left
+        ensures value { result ≡ begins.left_of self.now.stage }
     {
-        self.stage
+        match self.stage {
+            BeginStage::Answered { left, .. } => left,
+            _ => Left::Nothing,
+        }
     }
 }

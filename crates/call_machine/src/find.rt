@@ -1,75 +1,107 @@
 //! Finding the head of a bucket, inside a section that is opened first.
-ghost use Rattle.std.specs.Prelude.{◌≡◌, ◌<◌, ◌≤◌};
+ghost use Rattle.std.specs.Prelude.{◌≡◌, ℕ, ◌≤◌};
 ghost use Rattle.table_shape.specs.declared.shape.Shape.{Shape};
 ghost use Rattle.table_shape.specs.Shape.{IsSound};
+ghost use Rattle.atomic_step.specs.SoundStep.{CanBeFound};
 ghost use Rattle.call_machine.specs.Find as find;
-ghost use Rattle.call_machine.specs.Steps.{want_of, IsPlanInside};
-ghost use Rattle.call_machine.specs.SoundCall.{IsSoundFind, FitsFind};
 
-use crate::stage::{FindStage, Walk};
-use crate::step::{StepKind, Want, load, store};
-use marked_word::is_redirected;
-use table_shape::{Place, Shape};
+use crate::enter::EnterStage;
+use atomic_step::Step;
+use marked_word::{is_redirected, new_level_of};
 
-/// The step of a stage.
-#[inline(always)]
-pub(crate) fn find_want(shape: &Shape, number: u32, walk: &Walk, stage: FindStage) -> Want
-    requires table { IsSound shape.now }
-    requires sound { IsSoundFind shape.now walk.now stage }
-    requires inside { IsPlanInside shape.now (find.find_plan number walk.now stage) }
-    ensures value { result ≡ want_of shape.now (find.find_plan number walk.now stage) }
-{
-    let Walk { row, bucket, .. } = *walk;
-    match stage {
-        FindStage::LoadCounter => load(shape, StepKind::K9, Place::Counter),
-        FindStage::OpenSection { counter } => {
-            store(shape, StepKind::K10, Place::Section(number), counter + 1)
+/// Where a call stands that finds the head of its text's bucket.
+#[derive(Clone, Copy, Debug, PartialEq, Eq)]
+pub enum FindStage {
+    Enter(EnterStage),
+    LoadLevel,
+    /// The head in the row of the level.
+    LoadHead,
+    LoadNewLevel,
+    /// The head in the row of the new level, after a redirect.
+    LoadNewHead,
+}
+
+/// The bucket at which a call came into its chain.
+#[derive(Clone, Copy, Debug, PartialEq, Eq)]
+pub struct Walk {
+    pub row: u8,
+    pub bucket: u32,
+    /// The head's word as it was loaded.
+    pub head: u64,
+    /// How many nodes were passed since the call last began to find its head.
+    pub passed: u32,
+}
+
+impl Walk {
+    /// The walk of a call that has not begun to find its head.
+    pub const NONE: Walk = Walk {
+        row: 0,
+        bucket: 0,
+        head: 0,
+        passed: 0,
+    };
+
+    /// At the bucket of a text with this hash, in the row of a level.
+    fn turned_to(self, hash: u32, level: u8) -> Walk
+        requires level { level ≤ 20 }
+        ensures value { result ≡ find.turned_to hash level self }
+    {
+        Walk {
+            row: level,
+            bucket: hash % (1u32 << level),
+            ..self
         }
-        FindStage::LoadLevel => load(shape, StepKind::K19, Place::Level),
-        FindStage::LoadHead => load(shape, StepKind::K5, Place::Head { row, bucket }),
-        FindStage::LoadNewLevel => load(shape, StepKind::K20, Place::NewLevel),
-        FindStage::LoadNewHead => load(shape, StepKind::K5, Place::Head { row, bucket }),
     }
 }
 
-/// The next stage, or `None` where the head is found.
-#[inline(always)]
-pub(crate) fn find_next(stage: FindStage, word: u64) -> Option<FindStage>
-    ensures value { result ≡ find.find_next stage word }
-{
-    match stage {
-        FindStage::LoadCounter => Some(FindStage::OpenSection { counter: word }),
-        FindStage::OpenSection { .. } => Some(FindStage::LoadLevel),
-        FindStage::LoadLevel => Some(FindStage::LoadHead),
-        FindStage::LoadHead if is_redirected(word) => Some(FindStage::LoadNewLevel),
-        FindStage::LoadNewLevel => Some(FindStage::LoadNewHead),
-        FindStage::LoadHead | FindStage::LoadNewHead => None,
+impl FindStage {
+    /// The step of the stage, by the seat of this number.
+    pub(crate) fn step(self, number: u32, walk: Walk) -> Step
+        ensures value { (hash : ℕ) → result ≡ (find.find_row number hash walk self).step }
+    {
+        let Walk { row, bucket, .. } = walk;
+        match self {
+            FindStage::Enter(stage) => stage.step(number),
+            FindStage::LoadLevel => Step::LoadLevel,
+            FindStage::LoadNewLevel => Step::LoadNewLevel,
+            FindStage::LoadHead | FindStage::LoadNewHead => Step::LoadHead { row, bucket },
+        }
+    }
+
+    /// What the word that was found says of the bucket, and the next stage, or `None` where the head is
+    /// found.
+    pub(crate) fn next(
+        self,
+        number: u32,
+        hash: u32,
+        walk: Walk,
+        word: u64,
+    ) -> (Walk, Option<FindStage>)
+        requires fits { (shape : Shape) × IsSound shape × CanBeFound shape (find.find_row number hash walk self).step word }
+        ensures value { result ≡ (find.find_row number hash walk self).next word }
+    {
+        match self {
+            FindStage::Enter(stage) => (walk, Some(entered(stage.next(number, word)))),
+            FindStage::LoadLevel => (walk.turned_to(hash, word as u8), Some(FindStage::LoadHead)),
+            FindStage::LoadHead if is_redirected(word) => (
+                Walk { head: word, ..walk },
+                Some(FindStage::LoadNewLevel),
+            ),
+            FindStage::LoadNewLevel => (
+                walk.turned_to(hash, new_level_of(word)),
+                Some(FindStage::LoadNewHead),
+            ),
+            FindStage::LoadHead | FindStage::LoadNewHead => (Walk { head: word, ..walk }, None),
+        }
     }
 }
 
-/// At the bucket of a text with this hash, in the row of a level.
-#[inline(always)]
-fn turned_to(walk: Walk, hash: u32, level: u8) -> Walk
-    requires level { level ≤ 20 }
-    ensures value { result ≡ find.turned_to hash level walk }
+/// Still opening the section, or inside it.
+fn entered(then: Option<EnterStage>) -> FindStage
+    ensures value { result ≡ find.entered then }
 {
-    Walk {
-        row: level,
-        bucket: hash % (1u32 << level),
-        ..walk
-    }
-}
-
-/// What the word that was found says of the bucket.
-#[inline(always)]
-pub(crate) fn find_walk(walk: Walk, hash: u32, stage: FindStage, word: u64) -> Walk
-    requires fits { (shape : Shape) × IsSound shape × FitsFind shape stage word }
-    ensures value { result ≡ find.find_walk hash walk stage word }
-{
-    match stage {
-        FindStage::LoadLevel => turned_to(walk, hash, word as u8),
-        FindStage::LoadNewLevel => turned_to(walk, hash, (word - 1) as u8),
-        FindStage::LoadHead | FindStage::LoadNewHead => Walk { head: word, ..walk },
-        FindStage::LoadCounter | FindStage::OpenSection { .. } => walk,
+    match then {
+        Some(stage) => FindStage::Enter(stage),
+        None => FindStage::LoadLevel,
     }
 }

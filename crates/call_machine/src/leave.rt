@@ -1,41 +1,82 @@
 //! Leaving a section: a slot that was claimed in vain is given back, and the section is closed.
-ghost use Rattle.std.specs.Prelude.{◌≡◌, ◌^◌, ◌<◌};
-ghost use Rattle.table_shape.specs.Shape.{IsSound};
+ghost use Rattle.std.specs.Prelude.{◌≡◌};
 ghost use Rattle.call_machine.specs.Leave as leave;
-ghost use Rattle.call_machine.specs.Steps.{want_of, IsPlanInside};
-ghost use Rattle.call_machine.specs.SoundCall.{IsSoundLeave};
+ghost use Rattle.call_machine.specs.Sought.{asked_of};
 
-use crate::call::Answer;
-use crate::counts::holds_word;
-use crate::stage::{CallStage, Goal, LeaveStage, Then};
-use crate::step::{StepKind, Want, store};
+use crate::enter::EnterStage;
+use crate::find::{FindStage, Walk};
+use crate::stage::{Along, CallStage, Goal, Request};
+use atomic_step::{Answer, Step};
 use intern_log::Handle;
-use table_shape::{Place, Shape};
 
-/// The step of a stage, by a seat's number.
-#[inline(always)]
-pub(crate) fn leave_want(shape: &Shape, number: u32, stage: LeaveStage) -> Want
-    requires table { IsSound shape.now }
-    requires sound { IsSoundLeave shape.now stage }
-    requires inside { IsPlanInside shape.now (leave.leave_plan number stage) }
-    ensures value { result ≡ want_of shape.now (leave.leave_plan number stage) }
-{
-    match stage {
-        LeaveStage::UndoCount { handle, .. } => {
-            store(
-                shape,
-                StepKind::K3,
-                Place::Count(handle.slot),
-                holds_word(handle, 0),
-            )
+/// What comes once the section is closed.
+#[derive(Clone, Copy, Debug, PartialEq, Eq)]
+pub enum Then {
+    Answer(Answer),
+    TryAgain,
+}
+
+/// Where a call stands that leaves its section: a slot that it claimed is given back before.
+#[derive(Clone, Copy, Debug, PartialEq, Eq)]
+pub enum LeaveStage {
+    UndoCount { handle: Handle, then: Then },
+    UndoClaim { slot: u32, then: Then },
+    Close { then: Then },
+}
+
+impl LeaveStage {
+    /// The step of the stage.
+    pub(crate) fn step(self, request: &Request<'_>) -> Step
+        ensures value { (w : Along) → result ≡ (leave.leave_row (asked_of request.now) w self).step }
+    {
+        let number = request.number;
+        match self {
+            LeaveStage::UndoCount { handle, .. } => Step::PutCount { handle, holds: 0 },
+            LeaveStage::UndoClaim { slot, .. } => Step::FreeSlot { slot },
+            LeaveStage::Close { .. } => Step::CloseSection { number },
         }
-        LeaveStage::UndoClaim { slot, .. } => store(shape, StepKind::K4, Place::Claim(slot), 0),
-        LeaveStage::Close { .. } => store(shape, StepKind::K11, Place::Section(number), 0),
+    }
+
+    /// What comes of the step, whatever it found.
+    pub(crate) fn next(self, request: &Request<'_>, along: Along, word: u64) -> (Along, CallStage)
+        ensures value { result ≡ (leave.leave_row (asked_of request.now) along self).next word }
+    {
+        match self {
+            LeaveStage::UndoCount { handle, then } => {
+                let slot = handle.slot;
+                let undone = LeaveStage::UndoClaim { slot, then };
+                (along, CallStage::Leave(undone))
+            }
+            LeaveStage::UndoClaim { then, .. } => (
+                Along {
+                    kept: None,
+                    ..along
+                },
+                CallStage::Leave(LeaveStage::Close { then }),
+            ),
+            LeaveStage::Close { then } => left_for(along, then),
+        }
+    }
+}
+
+/// The section is closed: the call answers, or finds its head anew.
+fn left_for(along: Along, then: Then) -> (Along, CallStage)
+    ensures value { result ≡ leave.left_for along then }
+{
+    match then {
+        Then::Answer(answer) => (along, CallStage::Answered(answer)),
+        Then::TryAgain => {
+            let walk = Walk {
+                passed: 0,
+                ..along.walk
+            };
+            let enters = FindStage::Enter(EnterStage::LoadCounter);
+            (Along { walk, ..along }, CallStage::Find(enters))
+        }
     }
 }
 
 /// Leaving to try again.
-#[inline(always)]
 pub(crate) fn tries_again() -> CallStage
     ensures value { result ≡ leave.tries_again }
 {
@@ -45,7 +86,6 @@ pub(crate) fn tries_again() -> CallStage
 }
 
 /// Leaving with an answer; a slot that is kept is given back before.
-#[inline(always)]
 pub(crate) fn leaves_with(kept: Option<Handle>, answer: Answer) -> CallStage
     ensures value { result ≡ leave.leaves_with kept answer }
 {
@@ -57,7 +97,6 @@ pub(crate) fn leaves_with(kept: Option<Handle>, answer: Answer) -> CallStage
 }
 
 /// Another was faster: the intern that waits tries again, and any other call answers.
-#[inline(always)]
 pub(crate) fn loses_with(goal: Goal, kept: Option<Handle>, answer: Answer) -> CallStage
     ensures value { result ≡ leave.loses_with goal kept answer }
 {

@@ -1,69 +1,47 @@
-//! Laws of the sections of a call, and of the slot that it claims.
-//! Each function does nothing: its contract is the law.
-ghost use Rattle.std.specs.Prelude.{◌≡◌, ℕ, false, None};
-ghost use Rattle.call_machine.specs.declared.call.Answer.{Answer};
+//! Laws of the section of a call, and of the slot that it claims, step by step and from its beginning to its
+//! answer. Each function does nothing: its contract is the law.
+ghost use Rattle.std.specs.Prelude.{◌≡◌, ℕ, false, Some, None};
+ghost use Rattle.atomic_step.specs.declared.access.StepKind.TheVariants.{K3};
+ghost use Rattle.atomic_step.specs.declared.answer.Answer.{Answer};
+ghost use Rattle.atomic_step.specs.declared.plan.Plan.TheVariants as plan;
+ghost use Rattle.atomic_step.specs.declared.step.Step.{Step};
+ghost use Rattle.atomic_step.specs.Monitor.{after_one, section, slot};
+ghost use Rattle.atomic_step.specs.Step.{access_of};
 ghost use Rattle.call_machine.specs.declared.stage.Calling.{Calling};
-ghost use Rattle.call_machine.specs.declared.step.Plan.TheVariants as plan;
-ghost use Rattle.call_machine.specs.Beginnings.{AtEachBeginning};
-ghost use Rattle.call_machine.specs.Calls.{plan_of, got_of};
-ghost use Rattle.call_machine.specs.CallEvents.{event_of};
-ghost use Rattle.call_machine.specs.CallSections.{is_inside, is_inside_after, IsInTurn, claimed_slot, claimed_after, IsOfItsSlot};
-ghost use Rattle.call_machine.specs.Orderly.{IsOrderlyCall};
-ghost use Rattle.call_machine.specs.SoundCall.{FitsCall};
+ghost use Rattle.call_machine.specs.BeginCall.{AtEachBeginning};
+ghost use Rattle.call_machine.specs.Calls.{plan_of, got_of, event_of};
+ghost use Rattle.call_machine.specs.CallSections.{is_inside, claimed_slot, slot_of_place};
+ghost use Rattle.call_machine.specs.SoundCall.{IsSoundCall, FitsCall};
+ghost use Rattle.call_machine.specs.WholeCall.{LeadsTo};
 
-/// No call begins inside its section.
-pub fn calls_begin_outside()
-    ensures law { AtEachBeginning (λ c. is_inside c ≡ false) }
+/// A call begins outside its section, opens it where it is outside, closes it where it is inside, stays where it
+/// is at any other step, and answers outside.
+pub fn sections_follow_the_events()
+    ensures begin { AtEachBeginning (λ c. is_inside c ≡ false) }
+    ensures answer { (c : Calling) (a : Answer) → plan_of c ≡ plan.Answered a → is_inside c ≡ false }
+    ensures step { (c : Calling) (word : ℕ) → IsSoundCall c → FitsCall c word → after_one section (is_inside c) (event_of c word) ≡ Some (is_inside (got_of c word)) }
 {}
 
-/// None answers inside it.
-pub fn calls_answer_outside()
-    ensures law { (c : Calling) (a : Answer) → plan_of c ≡ plan.Answered a → is_inside c ≡ false }
+/// The Opens and Closes of a call that has answered come in pairs, with one section open at most.
+pub fn sections_of_a_call_come_in_pairs()
+    ensures law { AtEachBeginning (LeadsTo section false false) }
 {}
 
-/// A call opens its section outside it, and closes it inside it.
-pub fn sections_are_opened_and_closed_in_turn()
-    ensures law { (c : Calling) (word : ℕ) → IsInTurn (event_of c word) (is_inside c) }
+/// A call begins without a slot, claims one where it has none, creates in the slot that it has or gives that one
+/// back, keeps what it has at any other step, and answers without one.
+pub fn slots_follow_the_events()
+    ensures begin { AtEachBeginning (λ c. claimed_slot c ≡ None) }
+    ensures answer { (c : Calling) (a : Answer) → IsSoundCall c → plan_of c ≡ plan.Answered a → claimed_slot c ≡ None }
+    ensures step { (c : Calling) (word : ℕ) → IsSoundCall c → FitsCall c word → after_one slot (claimed_slot c) (event_of c word) ≡ Some (claimed_slot (got_of c word)) }
 {}
 
-/// It is inside from an Open on, outside from a Close on, and any other step leaves it where it is.
-pub fn inside_by_a_step()
-    ensures law { (c : Calling) (word : ℕ) → IsOrderlyCall c → FitsCall c word → is_inside (got_of c word) ≡ is_inside_after (event_of c word) (is_inside c) }
+/// Each Claim of a call that has answered is followed by its Create or its Free before the next Claim, also of
+/// an intern that tries again.
+pub fn claims_of_a_call_come_in_pairs()
+    ensures law { AtEachBeginning (LeadsTo slot None None) }
 {}
 
-/// No call begins with a slot.
-pub fn calls_begin_without_a_slot()
-    ensures law { AtEachBeginning (λ c. claimed_slot c ≡ None) }
+/// A call writes words of the slot that it has claimed alone.
+pub fn writes_are_on_the_claimed_slot()
+    ensures law { (c : Calling) (s : Step) → plan_of c ≡ plan.Step s → (access_of s).kind ≡ K3 → slot_of_place (access_of s).place ≡ claimed_slot c }
 {}
-
-/// None answers with one.
-pub fn calls_answer_without_a_slot()
-    ensures law { (c : Calling) (a : Answer) → IsOrderlyCall c → plan_of c ≡ plan.Answered a → claimed_slot c ≡ None }
-{}
-
-/// A call claims a slot where it has none, and creates in the slot that it has, or gives that one back.
-pub fn slots_are_claimed_one_at_a_time()
-    ensures law { (c : Calling) (word : ℕ) → IsOrderlyCall c → IsOfItsSlot (event_of c word) (claimed_slot c) }
-{}
-
-/// It has the slot from a Claim on, none from a Create or a Free on, and any other step leaves what it has.
-pub fn slot_by_a_step()
-    ensures law { (c : Calling) (word : ℕ) → IsOrderlyCall c → FitsCall c word → claimed_slot (got_of c word) ≡ claimed_after (event_of c word) (claimed_slot c) }
-{}
-
-#[cfg(test)]
-mod tests {
-    use super::*;
-
-    #[test]
-    fn laws_can_be_called() {
-        calls_begin_outside();
-        calls_answer_outside();
-        sections_are_opened_and_closed_in_turn();
-        inside_by_a_step();
-        calls_begin_without_a_slot();
-        calls_answer_without_a_slot();
-        slots_are_claimed_one_at_a_time();
-        slot_by_a_step();
-    }
-}

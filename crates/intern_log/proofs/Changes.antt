@@ -8,7 +8,6 @@ use Rattle.std.proofs.lemmas.Slice.Eq.{bytes_eq-Decides}
 use Rattle.std.specs.Option.{option_and_then}
 use Rattle.intern_log.specs.declared.event.Handle.{Handle}
 use Rattle.intern_log.specs.declared.event.Entry.{Entry}
-use Rattle.intern_log.specs.declared.event.TheConstants.{PERMANENT}
 use Rattle.intern_log.specs.TextMap.{TextMap, entry_of, put_at, alter, at_handle, handle_eq}
 use Rattle.intern_log.specs.Log.{raised, lowered, HandlesDiffer}
 use Rattle.intern_log.proofs.Entries.{entry_of-put_at, entry_of-alter, same_entries}
@@ -45,9 +44,9 @@ pub raised_counted : (e : Entry) → 1 ≤ (raised e).count
 raised_counted e = grind (arith, nat_tests)
 
 pub lowered_counted : (e f : Entry) → lowered e ≡ Some f → 1 ≤ f.count
-lowered_counted e f is = counted (e.count == PERMANENT) (Decides-eqb e.count PERMANENT).0 (nat_le e.count 1) (leb-false e.count 1) is
+lowered_counted e f is = counted (e.count == 65535) (Decides-eqb e.count 65535).0 (nat_le e.count 1) (leb-false e.count 1) is
   where
-    counted : (permanent : Bool) → (permanent ≡ true → e.count ≡ PERMANENT) → (last : Bool) → (last ≡ false → 1 < e.count)
+    counted : (permanent : Bool) → (permanent ≡ true → e.count ≡ 65535) → (last : Bool) → (last ≡ false → 1 < e.count)
         → cond permanent (Some e) (cond last None (Some (record e { count = e.count - 1 }))) ≡ Some f → 1 ≤ f.count
     counted true full last more is = let same : e ≡ f = cc in omega (arith, ap (λ (x : Entry). x.count) same, full refl)
     counted false full true more is = absurd (cc)

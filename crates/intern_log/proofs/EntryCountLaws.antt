@@ -19,7 +19,6 @@ use Rattle.intern_log.specs.declared.event.Event.{Event}
 use Rattle.intern_log.specs.declared.event.What.{What}
 use Rattle.intern_log.specs.declared.event.What.TheVariants.{Create, Take, Drop, Perm, Kill}
 use Rattle.intern_log.specs.declared.event.Released.TheVariants.{Dropped, Permanent}
-use Rattle.intern_log.specs.declared.event.TheConstants.{PERMANENT}
 use Rattle.intern_log.specs.TextMap.{TextMap, no_texts, entry_of, put_at, handle_eq, at_handle}
 use Rattle.intern_log.specs.Log.{next, entry_after, raised, lowered, made_permanent, map_after, map_of}
 use Rattle.intern_log.specs.EntryCounts.{released_of, references_to, references_of}
@@ -41,7 +40,7 @@ fits_either true x y first second = first
 fits_either false x y first second = second
 
 lowered_below : (e f : Entry) → e.count ≤ 65535 → lowered e ≡ Some f → f.count ≤ 65535
-lowered_below e f most is = by (e.count == PERMANENT) (nat_le e.count 1) is
+lowered_below e f most is = by (e.count == 65535) (nat_le e.count 1) is
   where
     by : (b c : Bool) → cond b (Some e) (cond c None (Some (record e { count = e.count - 1 }))) ≡ Some f → f.count ≤ 65535
     by true c made = let same : e ≡ f = cc in omega (arith, ap (λ (x : Entry). x.count) same, most)
@@ -75,7 +74,7 @@ counts_fit log text = counts_after no_texts log (λ q. subst Fits (sym (finite.g
 
 -- what letting go of an entry comes to
 pub others_drop : (e : Entry) → ¬ (e.count ≡ 65535) → released_of e.count ≡ Dropped (unwrap_or (option_map (λ (f : Entry). f.count) (lowered e)) 0)
-others_drop e other = by (e.count == PERMANENT) (nat_le e.count 1) (Decides-eqb e.count PERMANENT).0 (leb-true e.count 1)
+others_drop e other = by (e.count == 65535) (nat_le e.count 1) (Decides-eqb e.count 65535).0 (leb-true e.count 1)
   where
     by : (b c : Bool) → (b ≡ true → e.count ≡ 65535) → (c ≡ true → e.count ≤ 1) →
         cond b Permanent (Dropped (e.count - 1)) ≡ Dropped (unwrap_or (option_map (λ (f : Entry). f.count) (cond b (Some e) (cond c None (Some (record e { count = e.count - 1 }))))) 0)
@@ -85,13 +84,13 @@ others_drop e other = by (e.count == PERMANENT) (nat_le e.count 1) (Decides-eqb 
 
 -- the holds that an entry counts, and those of a map with one more text
 references_below : (e : Entry) → e.count < 65535 → references_to e ≡ e.count
-references_below e below = cond-true _ _ _ (lt-ltb e.count PERMANENT below)
+references_below e below = cond-true _ _ _ (lt-ltb e.count 65535 below)
 
 references_from : (e : Entry) → 65535 ≤ e.count → references_to e ≡ 0
-references_from e most = by (nat_lt e.count PERMANENT) refl
+references_from e most = by (nat_lt e.count 65535) refl
   where
-    by : (b : Bool) → nat_lt e.count PERMANENT ≡ b → cond b e.count 0 ≡ 0
-    by true is = absurd (let less = ltb-true e.count PERMANENT is in omega (arith, less, most))
+    by : (b : Bool) → nat_lt e.count 65535 ≡ b → cond b e.count 0 ≡ 0
+    by true is = absurd (let less = ltb-true e.count 65535 is in omega (arith, less, most))
     by false is = refl
 
 pub references_are : (e : Entry) → (e.count < 65535 → references_to e ≡ e.count) × (65535 ≤ e.count → references_to e ≡ 0)

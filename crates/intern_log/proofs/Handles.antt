@@ -13,7 +13,6 @@ use Rattle.intern_log.specs.declared.event.Entry.{Entry}
 use Rattle.intern_log.specs.declared.event.Event.{Event}
 use Rattle.intern_log.specs.declared.event.What.{What}
 use Rattle.intern_log.specs.declared.event.What.TheVariants.{Create, Take, Found, Drop, Perm, Kill, Claim, Free, Open, Close, Grace, Lock, Unlock, Unlink, ResizeTaken, ResizeGiven, Level, Rehash}
-use Rattle.intern_log.specs.declared.event.TheConstants.{PERMANENT}
 use Rattle.intern_log.specs.TextMap.{TextMap, no_texts, entry_of, handle_eq, HasHandle, at_handle}
 use Rattle.intern_log.specs.Log.{next, entry_after, new_entry, raised, lowered, made_permanent, Allows, map_after, map_of, IsLegalFrom, IsLegal, HandlesDiffer}
 use Rattle.intern_log.proofs.Entries.{entry_of-next}
@@ -38,7 +37,7 @@ stays_keeps e f is = same_entry e f is
 
 pub lowered_keeps : KeepsHandles lowered
 lowered_keeps e f is =
-    one_of (λ x. Some x) (λ x. cond (nat_le e.count 1) None (Some (record x { count = x.count - 1 }))) (e.count == PERMANENT) stays_keeps
+    one_of (λ x. Some x) (λ x. cond (nat_le e.count 1) None (Some (record x { count = x.count - 1 }))) (e.count == 65535) stays_keeps
     (one_of (λ x. None) (λ x. Some (record x { count = x.count - 1 })) (nat_le e.count 1) (λ x y no. absurd (cc)) (λ x y same. same_entry (record x { count = x.count - 1 }) y same)) e f is
 
 at_handle_keeps : (h : Handle) (change : Entry → Option Entry) → KeepsHandles change → KeepsHandles (at_handle h change)

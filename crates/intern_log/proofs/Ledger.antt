@@ -16,7 +16,6 @@ use Rattle.intern_log.specs.declared.event.What.{What}
 use Rattle.intern_log.specs.declared.event.Event.{Event}
 use Rattle.intern_log.specs.declared.event.Kind.TheVariants.{Counted, Weak}
 use Rattle.intern_log.specs.declared.event.What.TheVariants.{Create, Take, Found, Drop, Perm, Kill, Claim, Free, Open, Close, Grace, Lock, Unlock, Unlink, ResizeTaken, ResizeGiven, Level, Rehash}
-use Rattle.intern_log.specs.declared.event.TheConstants.{PERMANENT}
 use Rattle.intern_log.specs.TextMap.{TextMap, no_texts, entry_of, handle_eq, IsLive, at_handle}
 use Rattle.intern_log.specs.Log.{next, new_entry, raised, lowered, made_permanent, Allows, map_after, map_of, IsLegalFrom, HandlesDiffer}
 use Rattle.intern_log.specs.Own.{is_gain, is_loss, gains, losses}
@@ -33,7 +32,7 @@ use Rattle.intern_log.proofs.Graced.{or_false}
 
 -- what is known of a handle that was gained and lost so often
 pub record Book (m : TextMap) (k : Handle) (gained lost : ℕ) : Type 0 where
-  live : (t : List ℕ) (e : Entry) → entry_of m t ≡ Some e → e.handle ≡ k → (1 ≤ e.count) × (e.count < PERMANENT → gained ≡ lost + e.count)
+  live : (t : List ℕ) (e : Entry) → entry_of m t ≡ Some e → e.handle ≡ k → (1 ≤ e.count) × (e.count < 65535 → gained ≡ lost + e.count)
   either : IsLive m k ⊎ (gained ≡ lost)
 
 -- a handle that is not live was lost as often as gained
@@ -140,7 +139,7 @@ book-create m u h gained lost allowed book = record {
   either = inl (u, (new_entry h, entry_of-next m (Create u h) u ∙ ap (λ b. cond b (Some (new_entry h)) (entry_of m u)) ((bytes_eq-Decides u u).1 refl), refl));
 }
   where
-    live : (b : Bool) (t : List ℕ) (e : Entry) → cond b (Some (new_entry h)) (entry_of m t) ≡ Some e → e.handle ≡ h → (1 ≤ e.count) × (e.count < PERMANENT → gained + 1 ≡ lost + e.count)
+    live : (b : Bool) (t : List ℕ) (e : Entry) → cond b (Some (new_entry h)) (entry_of m t) ≡ Some e → e.handle ≡ h → (1 ≤ e.count) × (e.count < 65535 → gained + 1 ≡ lost + e.count)
     live true t e is at =
         let one = count_of (new_entry h) e is in let before = gone_of m h gained lost book allowed.1 in
         (omega (arith, one), (λ below. omega (arith, one, before)))
@@ -164,33 +163,33 @@ book-take m u h gained lost differ allowed book = record {
 }
   where
     live : (b : Bool) (t : List ℕ) (e : Entry) → Decides b (t ≡ u) → cond b (option_map raised (entry_of m t)) (entry_of m t) ≡ Some e → e.handle ≡ h →
-        (1 ≤ e.count) × (e.count < PERMANENT → gained + 1 ≡ lost + e.count)
+        (1 ≤ e.count) × (e.count < 65535 → gained + 1 ≡ lost + e.count)
     live true t e decided is at =
         let there : entry_of m t ≡ Some allowed.0 = ap (entry_of m) (decided.0 refl) ∙ allowed.1 in
-        let count : min (allowed.0.count + 1) PERMANENT ≡ e.count = count_of (raised allowed.0) e (sym (ap (option_map raised) there) ∙ is) in
+        let count : min (allowed.0.count + 1) 65535 ≡ e.count = count_of (raised allowed.0) e (sym (ap (option_map raised) there) ∙ is) in
         let before = book.live t allowed.0 there allowed.2 in
         let least = before.0 in
         (omega (arith, count, least), (λ below. let equal = before.1 (omega (arith, count, below)) in omega (arith, count, below, equal)))
     live false t e decided is at = absurd (not_here decided (differ t u h (e, is, at) allowed))
 
 -- what lowering makes of an entry
-lowered_count : (e f : Entry) → lowered e ≡ Some f → 1 ≤ e.count → (1 ≤ f.count) × (f.count < PERMANENT → (e.count ≡ f.count + 1) × (e.count < PERMANENT))
-lowered_count e f is least = by (e.count == PERMANENT) (nat_le e.count 1) refl refl is
+lowered_count : (e f : Entry) → lowered e ≡ Some f → 1 ≤ e.count → (1 ≤ f.count) × (f.count < 65535 → (e.count ≡ f.count + 1) × (e.count < 65535))
+lowered_count e f is least = by (e.count == 65535) (nat_le e.count 1) refl refl is
   where
-    by : (b c : Bool) → (e.count == PERMANENT) ≡ b → nat_le e.count 1 ≡ c → cond b (Some e) (cond c None (Some (record e { count = e.count - 1 }))) ≡ Some f →
-        (1 ≤ f.count) × (f.count < PERMANENT → (e.count ≡ f.count + 1) × (e.count < PERMANENT))
+    by : (b c : Bool) → (e.count == 65535) ≡ b → nat_le e.count 1 ≡ c → cond b (Some e) (cond c None (Some (record e { count = e.count - 1 }))) ≡ Some f →
+        (1 ≤ f.count) × (f.count < 65535 → (e.count ≡ f.count + 1) × (e.count < 65535))
     by true c permanent small made =
-        let count = count_of e f made in let most = (Decides-eqb e.count PERMANENT).0 permanent in (omega (arith, count, least), (λ below. absurd (omega (arith, count, below, most))))
+        let count = count_of e f made in let most = (Decides-eqb e.count 65535).0 permanent in (omega (arith, count, least), (λ below. absurd (omega (arith, count, below, most))))
     by false true permanent small made = absurd (cc)
     by false false permanent small made =
         let count : e.count - 1 ≡ f.count = count_of (record e { count = e.count - 1 }) f made in let more = leb-false e.count 1 small in
-        let unlike : ¬ (e.count ≡ PERMANENT) = not_from_Decides (e.count == PERMANENT) (Decides-eqb e.count PERMANENT) permanent in
+        let unlike : ¬ (e.count ≡ 65535) = not_from_Decides (e.count == 65535) (Decides-eqb e.count 65535) permanent in
         (omega (arith, count, more), (λ below. (omega (arith, count, more), omega (arith, count, more, below, unlike))))
 
-lowered_none : (e : Entry) → lowered e ≡ None → 1 ≤ e.count → (e.count ≡ 1) × (e.count < PERMANENT)
-lowered_none e is least = by (e.count == PERMANENT) (nat_le e.count 1) refl is
+lowered_none : (e : Entry) → lowered e ≡ None → 1 ≤ e.count → (e.count ≡ 1) × (e.count < 65535)
+lowered_none e is least = by (e.count == 65535) (nat_le e.count 1) refl is
   where
-    by : (b c : Bool) → nat_le e.count 1 ≡ c → cond b (Some e) (cond c None (Some (record e { count = e.count - 1 }))) ≡ None → (e.count ≡ 1) × (e.count < PERMANENT)
+    by : (b c : Bool) → nat_le e.count 1 ≡ c → cond b (Some e) (cond c None (Some (record e { count = e.count - 1 }))) ≡ None → (e.count ≡ 1) × (e.count < 65535)
     by true c small made = absurd (cc)
     by false true small made = let few = leb-true e.count 1 small in (omega (arith, few, least), omega (arith, few))
     by false false small made = absurd (cc)
@@ -240,7 +239,7 @@ book-perm : (m : TextMap) (h : Handle) (gained lost : ℕ) → Allows m (Perm h)
 book-perm m h gained lost allowed book = record {
   live = λ t f is at.
       let was = from_this (λ e. Some (made_permanent e)) h (entry_of m t) f permanent_keeps (sym (entry_of-next m (Perm h) t) ∙ is) at in
-      let count : PERMANENT ≡ f.count = count_of (made_permanent was.0) f was.3 in
+      let count : 65535 ≡ f.count = count_of (made_permanent was.0) f was.3 in
       (omega (arith, count), (λ below. absurd (omega (arith, count, below))));
   either = inl (
     allowed.0,

@@ -8,7 +8,6 @@ use Rattle.intern_log.specs.declared.event.Entry.{Entry}
 use Rattle.intern_log.specs.declared.event.Event.{Event}
 use Rattle.intern_log.specs.declared.event.What.{What}
 use Rattle.intern_log.specs.declared.event.What.TheVariants.{Create, Take, Found, Drop, Perm, Kill, Claim, Free, Open, Close, Grace, Lock, Unlock, Unlink, ResizeTaken, ResizeGiven, Level, Rehash}
-use Rattle.intern_log.specs.declared.event.TheConstants.{PERMANENT}
 use Rattle.intern_log.specs.TextMap.{TextMap, no_texts, entry_of, handle_eq, HasHandle, IsLive, put_at, alter, at_handle}
 
 -- the entry that a Create makes
@@ -17,15 +16,15 @@ new_entry h = record { handle = h; count = 1 }
 
 -- one more count; 65,535 stays
 abbrev pub raised : Entry → Entry
-raised e = record e { count = min (e.count + 1) PERMANENT }
+raised e = record e { count = min (e.count + 1) 65535 }
 
 -- one count less; 65,535 stays, and at 0 the entry is gone
 abbrev pub lowered : Entry → Option Entry
-lowered e = if e.count == PERMANENT then Some e else if nat_le e.count 1 then None else Some (record e { count = e.count - 1 })
+lowered e = if e.count == 65535 then Some e else if nat_le e.count 1 then None else Some (record e { count = e.count - 1 })
 
 -- the count that no drop lowers
 abbrev pub made_permanent : Entry → Entry
-made_permanent e = record e { count = PERMANENT }
+made_permanent e = record e { count = 65535 }
 
 -- the map after one more event
 abbrev pub next : TextMap → What → TextMap

@@ -34,21 +34,20 @@ pub struct Text {
 
 impl Model for Text {
     ghost use Rattle.std.specs.Prelude.{◌≤◌, ℕ, List, length};
-    ghost use Rattle.intern_log.specs.declared.text.TheConstants.{MAX_TEXT};
 
     ghost Value = { List ℕ };
 
     ghost view = { λ text. text.bytes.items };
 
-    ghost invariant = { λ text. length text.bytes.items ≤ MAX_TEXT };
+    ghost invariant = { λ text. length text.bytes.items ≤ 65535 };
 }
 
 impl Text {
     /// A text of these bytes. `TooLong` comes exactly where there are more than 65,535. The empty text
     /// takes no memory.
     pub fn of(alloc: Global, bytes: &[u8]) -> Result<Text, TextFault>
-        ensures too_long { MAX_TEXT < length bytes.now → result ≡ Err (TextFault.TooLong (length bytes.now)) }
-        ensures short { length bytes.now ≤ MAX_TEXT → MatchResult result (λ text. text ≡ bytes.now) (λ fault. fault ≡ TextFault.OutOfMemory) }
+        ensures too_long { 65535 < length bytes.now → result ≡ Err (TextFault.TooLong (length bytes.now)) }
+        ensures short { length bytes.now ≤ 65535 → MatchResult result (λ text. text ≡ bytes.now) (λ fault. fault ≡ TextFault.OutOfMemory) }
         ensures memory { result ≡ Err TextFault.OutOfMemory → 0 < length bytes.now }
     {
         if bytes.len() > MAX_TEXT {
@@ -64,7 +63,7 @@ impl Text {
     /// The text's bytes.
     pub fn bytes(&self) -> &[u8]
         ensures value { result.now ≡ self.now }
-        ensures short { length result.now ≤ MAX_TEXT }
+        ensures short { length result.now ≤ 65535 }
     {
         self.bytes.as_slice()
     }

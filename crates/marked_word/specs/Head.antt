@@ -21,3 +21,7 @@ is_redirected word = word / 2 % 2 == 1
 
 abbrev pub first_of : ℕ → Option ℕ
 first_of word = node_of (word / 4)
+
+-- the word of the same head with its lock set
+abbrev pub locked : ℕ → ℕ
+locked word = word + 1

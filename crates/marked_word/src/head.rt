@@ -1,5 +1,5 @@
 //! The head of a bucket's chain.
-ghost use Rattle.std.specs.Prelude.{◌≡◌, ◌/◌, ◌^◌, ◌≤◌};
+ghost use Rattle.std.specs.Prelude.{◌≡◌, ◌/◌, ◌^◌, ◌≤◌, false};
 ghost use Rattle.marked_word.specs.Head as head;
 
 use crate::link::{link_of, link_word, node_of};
@@ -70,6 +70,15 @@ pub fn first_of(word: u64) -> Option<u32>
     node_of(word >> 2)
 }
 
+/// The word of the same head with its lock set.
+#[inline]
+pub fn locked(word: u64) -> u64
+    requires open { head.is_locked word ≡ false }
+    ensures value { result ≡ head.locked word }
+{
+    word + 1
+}
+
 #[cfg(test)]
 mod tests {
     use super::*;
@@ -110,5 +119,6 @@ mod tests {
         assert!(rt; is_locked(5) && !is_locked(2));
         assert!(rt; is_redirected(2) && !is_redirected(5));
         assert_eq!(rt; first_of(19), Some(3));
+        assert_eq!(rt; locked(18), 19);
     }
 }

@@ -1,4 +1,6 @@
 //! What a slot's text is: its hash and its length.
+ghost use Rattle.std.specs.Prelude.{◌≡◌, ◌^◌, ◌<◌};
+ghost use Rattle.marked_word.specs.Meta as meta;
 
 /// The word that says which text a slot has, before its bytes are read.
 #[derive(Clone, Copy, Debug, PartialEq, Eq)]
@@ -38,6 +40,23 @@ impl Meta {
     }
 }
 
+/// The hash in the word of a hash and a length.
+#[inline]
+pub fn hash_in(word: u64) -> u32
+    requires meta { word < 2 ^ 48 }
+    ensures value { result ≡ meta.hash_in word }
+{
+    (word >> 16) as u32
+}
+
+/// The length in the word of a hash and a length.
+#[inline]
+pub fn length_in(word: u64) -> u16
+    ensures value { result ≡ meta.length_in word }
+{
+    (word & 0xffff) as u16
+}
+
 #[cfg(test)]
 mod tests {
     use super::*;
@@ -50,6 +69,8 @@ mod tests {
         };
         assert_eq!(rt; meta.to_word(), 6_356_993);
         assert_eq!(rt; Meta::of_word(6_356_993), Some(meta));
+        assert_eq!(rt; hash_in(6_356_993), 97);
+        assert_eq!(rt; length_in(6_356_993), 1);
         assert_eq!(rt; Meta::of_word(0x1_0000_0000_0000), None);
     }
 }

@@ -8,7 +8,7 @@ ghost use Rattle.intern_log.specs.EntryCounts.{released_of, references_of};
 ghost use Rattle.plain_interner.specs.State.{Follows, event_of, HasNewSlot, IsOfKind};
 
 use crate::numbers::{longest, references};
-use intern_log::{Handle, Kind, MAX_TEXT, PERMANENT, Released, Replay, What};
+use intern_log::{Handle, Kind, PERMANENT, Released, Replay, What};
 use std::alloc::{AllocError, Global};
 use std::marker::Model;
 
@@ -76,7 +76,7 @@ impl Plain {
     /// fewer than 2^32 - 1 entries were made before (`created`). Only want of memory fails, and then
     /// nothing has changed; only a text that was not live takes memory.
     pub fn intern(&mut self, text: &[u8]) -> Result<PlainInterned, AllocError>
-        requires short { length text.now ≤ MAX_TEXT }
+        requires short { length text.now ≤ 65535 }
         requires room { self.old.created < 2 ^ 32 - 1 }
         ensures follows { IfOk result (λ answer. Follows self.old (event_of text.now answer) self.new) }
         ensures new_slot { IfOk result (HasNewSlot self.old) }

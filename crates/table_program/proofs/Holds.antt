@@ -9,7 +9,6 @@ use Rattle.std.proofs.lemmas.Bool.Decides.{Decides-eqb}
 use Rattle.std.proofs.lemmas.List.Sums.{sum_by-cons, sum_by-append, count_by-le-length}
 use Rattle.intern_log.specs.declared.event.Handle.{Handle}
 use Rattle.intern_log.specs.declared.event.Entry.{Entry}
-use Rattle.intern_log.specs.declared.event.TheConstants.{PERMANENT}
 use Rattle.intern_log.specs.declared.event.What.TheVariants.{Create, Take, Drop}
 use Rattle.intern_log.specs.TextMap.{TextMap, entry_of, HasHandle, IsLive, handle_eq, at_handle}
 use Rattle.intern_log.specs.Log.{next, new_entry, raised, lowered, HandlesDiffer}
@@ -66,7 +65,7 @@ Holds-create m held t h holds absent q =
 
 -- the same after a Take, of a text that was live with the handle
 take_case : (q t : List ℕ) (h : Handle) (held : List Held) (b : Bool) (o : Option Entry) → bytes_eq q t ≡ b → (b ≡ true → (e : Entry) × (o ≡ Some e) × (e.handle ≡ h)) →
-    length held < PERMANENT → MatchOption o (times_held q held ≡ 0) (Counts q held) →
+    length held < 65535 → MatchOption o (times_held q held ≡ 0) (Counts q held) →
     MatchOption (cond b (option_map raised o) o) (times_held q (held ++ (t, h) ∷ []) ≡ 0) (Counts q (held ++ (t, h) ∷ []))
 take_case q t h held true None is there few before = let found = there refl in let none : None ≡ Some found.0 = found.1 in absurd (cc)
 take_case q t h held true (Some e) is there few before =
@@ -75,7 +74,7 @@ take_case q t h held true (Some e) is there few before =
     let more = times_held-push q t h held true is in
     let bound = count_by-le-length (λ (p : Held). bytes_eq q p.0) held in
     record {
-      count = ap (λ n. min (n + 1) PERMANENT) before.count ∙ omega arith;
+      count = ap (λ n. min (n + 1) 65535) before.count ∙ omega arith;
       some = omega arith;
       handle = IsHeldAs-push q e.handle held t h before.handle (λ here. sym found.2 ∙ ap (λ (x : Entry). x.handle) (sym same));
     }
@@ -84,7 +83,7 @@ take_case q t h held false (Some e) is there few before =
     let more = times_held-push q t h held false is in
     record { count = before.count ∙ omega arith; some = omega (arith, before.some); handle = IsHeldAs-push q e.handle held t h before.handle (λ here. absurd (not_same _ here is)) }
 
-pub Holds-take : (m : TextMap) (held : List Held) (t : List ℕ) (h : Handle) → Holds m held → HasHandle m t h → length held < PERMANENT → Holds (next m (Take t h)) (held ++ (t, h) ∷ [])
+pub Holds-take : (m : TextMap) (held : List Held) (t : List ℕ) (h : Handle) → Holds m held → HasHandle m t h → length held < 65535 → Holds (next m (Take t h)) (held ++ (t, h) ∷ [])
 Holds-take m held t h holds there few q =
     let here : bytes_eq q t ≡ true → (e : Entry) × (entry_of m q ≡ Some e) × (e.handle ≡ h) =
     λ same. (there.0, ap (entry_of m) ((bytes_eq-Decides q t).0 same) ∙ there.1, there.2) in
@@ -106,10 +105,10 @@ pub held_is_live : (m : TextMap) (held : List Held) (t : List ℕ) (h : Handle) 
 held_is_live m held t h holds = (t, front_has m held t h holds)
 
 -- one hold less on an entry that is held no more than 65,534 times
-lowered_case : (q : List ℕ) (h : Handle) (held : List Held) (e : Entry) (p : Held) (permanent gone : Bool) → e.count == PERMANENT ≡ permanent → nat_le e.count 1 ≡ gone →
-    bytes_eq q p.0 ≡ true → e.count < PERMANENT → Counts q (p ∷ held) e →
+lowered_case : (q : List ℕ) (h : Handle) (held : List Held) (e : Entry) (p : Held) (permanent gone : Bool) → e.count == 65535 ≡ permanent → nat_le e.count 1 ≡ gone →
+    bytes_eq q p.0 ≡ true → e.count < 65535 → Counts q (p ∷ held) e →
     MatchOption (cond permanent (Some e) (cond gone None (Some (record e { count = e.count - 1 })))) (times_held q held ≡ 0) (Counts q held)
-lowered_case q h held e p true gone is_permanent is_gone same few counts = let full : e.count ≡ PERMANENT = (Decides-eqb e.count PERMANENT).0 is_permanent in absurd (omega arith)
+lowered_case q h held e p true gone is_permanent is_gone same few counts = let full : e.count ≡ 65535 = (Decides-eqb e.count 65535).0 is_permanent in absurd (omega arith)
 lowered_case q h held e p false true is_permanent is_gone same few counts =
     let one = times_held-cons q p held true same in
     let last : e.count ≤ 1 = leb-true e.count 1 is_gone in
@@ -120,7 +119,7 @@ lowered_case q h held e p false false is_permanent is_gone same few counts =
     record { count = omega (arith, counts.count); some = omega (arith, counts.count); handle = counts.handle.1 }
 
 -- a Drop of the handle held longest, where the test says whether the entry has it
-drop_case : (q : List ℕ) (t : List ℕ) (h : Handle) (held : List Held) (o : Option Entry) → times_held q ((t, h) ∷ held) < PERMANENT →
+drop_case : (q : List ℕ) (t : List ℕ) (h : Handle) (held : List Held) (o : Option Entry) → times_held q ((t, h) ∷ held) < 65535 →
     (bytes_eq q t ≡ true → (e : Entry) × (o ≡ Some e) × (e.handle ≡ h)) → ((e : Entry) → o ≡ Some e → e.handle ≡ h → bytes_eq q t ≡ true) →
     MatchOption o (times_held q ((t, h) ∷ held) ≡ 0) (Counts q ((t, h) ∷ held)) →
     MatchOption (option_and_then (at_handle h lowered) o) (times_held q held ≡ 0) (Counts q held)
@@ -129,7 +128,7 @@ drop_case q t h held (Some e) few here only before = by_test (handle_eq e.handle
   where
     by_test : (b : Bool) → handle_eq e.handle h ≡ b → MatchOption (cond b (lowered e) (Some e)) (times_held q held ≡ 0) (Counts q held)
     by_test true is =
-        lowered_case q h held e (t, h) (e.count == PERMANENT) (nat_le e.count 1) refl refl (only e refl ((handle_eq-Decides e.handle h).0 is)) (omega (arith, before.count)) before
+        lowered_case q h held e (t, h) (e.count == 65535) (nat_le e.count 1) refl refl (only e refl ((handle_eq-Decides e.handle h).0 is)) (omega (arith, before.count)) before
     by_test false is =
         let other : bytes_eq q t ≡ false = not_true (bytes_eq q t) (λ same. let found = here same in
         let equal : e ≡ found.0 = (let somes : Some e ≡ Some found.0 = found.1 in cc) in
@@ -138,7 +137,7 @@ drop_case q t h held (Some e) few here only before = by_test (handle_eq e.handle
         record { count = before.count ∙ omega arith; some = omega (arith, before.some); handle = before.handle.1 }
 
 -- a Drop of the handle held longest lets it go
-pub Holds-drop : (m : TextMap) (held : List Held) (t : List ℕ) (h : Handle) → Holds m ((t, h) ∷ held) → HandlesDiffer m → length held + 1 < PERMANENT → Holds (next m (Drop h)) held
+pub Holds-drop : (m : TextMap) (held : List Held) (t : List ℕ) (h : Handle) → Holds m ((t, h) ∷ held) → HandlesDiffer m → length held + 1 < 65535 → Holds (next m (Drop h)) held
 Holds-drop m held t h holds differ few q =
     let front = front_has m held t h holds in
     let bound = count_by-le-length (λ (p : Held). bytes_eq q p.0) ((t, h) ∷ held) in

@@ -4,7 +4,6 @@ use Rattle.std.specs.Option.{option_map, option_or}
 use Rattle.std.proofs.lemmas.Bool.{ltb-false}
 use Rattle.std.specs.List.{AllByRecursion}
 use Rattle.std.proofs.lemmas.List.Elements.{All-from_recursion, All-filter, All-map}
-use Rattle.intern_log.specs.declared.text.TheConstants.{MAX_TEXT}
 use Rattle.name_scan.specs.declared.Token.{Token}
 use Rattle.name_scan.specs.FileTexts.{is_literal, text_of, texts_among, names_among, literals_among}
 use Rattle.table_program.specs.declared.outcome.Limit.TheVariants.{Text, Names, Literals}
@@ -14,15 +13,15 @@ use Rattle.table_program.proofs.Options.{no_item}
 use Rattle.table_program.specs.Limits.{most_names, most_literals, long_length, above, tokens_note, IsShort}
 
 -- where no text is too long each token is short
-one_short : (bytes : List ℕ) (t : Token) (rest : Option ℕ) (Rest : Type 0) (long : Bool) → nat_lt MAX_TEXT (length (text_of bytes t)) ≡ long → (rest ≡ None → Rest) →
+one_short : (bytes : List ℕ) (t : Token) (rest : Option ℕ) (Rest : Type 0) (long : Bool) → nat_lt 65535 (length (text_of bytes t)) ≡ long → (rest ≡ None → Rest) →
     cond long (Some (length (text_of bytes t))) rest ≡ None → IsShort bytes t × Rest
 one_short bytes t rest Rest true is others some = absurd (no_item _ some)
-one_short bytes t rest Rest false is others none = (ltb-false MAX_TEXT (length (text_of bytes t)) is, others none)
+one_short bytes t rest Rest false is others none = (ltb-false 65535 (length (text_of bytes t)) is, others none)
 
 each_short : (bytes : List ℕ) (found : List Token) → long_length (texts_among bytes found) ≡ None → AllByRecursion (IsShort bytes) found
 each_short bytes [] none = tt
 each_short bytes (t ∷ found) none =
-    one_short bytes t (long_length (texts_among bytes found)) (AllByRecursion (IsShort bytes) found) (nat_lt MAX_TEXT (length (text_of bytes t))) refl (λ rest. each_short bytes found rest) none
+    one_short bytes t (long_length (texts_among bytes found)) (AllByRecursion (IsShort bytes) found) (nat_lt 65535 (length (text_of bytes t))) refl (λ rest. each_short bytes found rest) none
 
 pub none_long : (bytes : List ℕ) (found : List Token) → long_length (texts_among bytes found) ≡ None → All (IsShort bytes) found
 none_long bytes found none = All-from_recursion (IsShort bytes) found (each_short bytes found none)
@@ -43,6 +42,6 @@ pub first_of_three : (both all text names literals text_is names_is literals_is 
 first_of_three both all text names literals text_is names_is literals_is all_are both_are text_same names_same literals_same = cc
 
 -- each name and each literal among short tokens is short
-pub literals_are_short : (bytes : List ℕ) (found : List Token) → All (IsShort bytes) found → All (λ text. length text ≤ MAX_TEXT) (literals_among bytes found)
+pub literals_are_short : (bytes : List ℕ) (found : List Token) → All (IsShort bytes) found → All (λ text. length text ≤ 65535) (literals_among bytes found)
 literals_are_short bytes found short =
-    All-map (λ text. length text ≤ MAX_TEXT) (text_of bytes) (filter (λ (t : Token). is_literal t.kind) found) (All-filter (λ (t : Token). is_literal t.kind) (IsShort bytes) found short)
+    All-map (λ text. length text ≤ 65535) (text_of bytes) (filter (λ (t : Token). is_literal t.kind) found) (All-filter (λ (t : Token). is_literal t.kind) (IsShort bytes) found short)

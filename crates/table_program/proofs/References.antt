@@ -12,7 +12,6 @@ use Rattle.std.proofs.lemmas.Slice.Eq.{bytes_eq-Decides}
 use Rattle.std.specs.FinMap as finite
 use Rattle.std.specs.FinMap.Entries.{below_all}
 use Rattle.intern_log.specs.declared.event.Entry.{Entry}
-use Rattle.intern_log.specs.declared.event.TheConstants.{PERMANENT}
 use Rattle.intern_log.specs.TextMap.{TextMap, entry_of}
 use Rattle.intern_log.specs.Finals.{is_among_texts}
 use Rattle.intern_log.specs.EntryCounts.{references_to, references_of}
@@ -127,16 +126,16 @@ all_holds keys (p ∷ held) once =
     omega (arith, split, first, rest)
 
 -- an entry that counts its holds, which are fewer than 65,535
-counts_holds : (q : List ℕ) (held : List Held) (o : Option Entry) (e : Entry) → length held < PERMANENT → MatchOption o (times_held q held ≡ 0) (Counts q held) → o ≡ Some e → references_to e ≡ times_held q held
+counts_holds : (q : List ℕ) (held : List Held) (o : Option Entry) (e : Entry) → length held < 65535 → MatchOption o (times_held q held ≡ 0) (Counts q held) → o ≡ Some e → references_to e ≡ times_held q held
 counts_holds q held None e few counts is = absurd (cc)
 counts_holds q held (Some f) e few counts is =
     let same : f ≡ e = cc in
     let count : e.count ≡ times_held q held = ap (λ (x : Entry). x.count) (sym same) ∙ counts.count in
     let bound = count_by-le-length (λ (p : Held). bytes_eq q p.0) held in
-    cond-true _ _ _ (lt-ltb e.count PERMANENT (omega arith)) ∙ count
+    cond-true _ _ _ (lt-ltb e.count 65535 (omega arith)) ∙ count
 
 -- fewer than 65,535 holds are all counted
-pub references_are : (m : TextMap) (held : List Held) → Holds m held → length held < PERMANENT → references_of m ≡ length held
+pub references_are : (m : TextMap) (held : List Held) → Holds m held → length held < 65535 → references_of m ≡ length held
 references_are m held holds few =
     sums_agree references_to (λ k. times_held k held) (finite.entries m) (finite.entries_sorted m) (λ q e found. counts_holds q held (entry_of m q) e few (holds q) (finite.get-entries m q ∙ found))
     ∙ all_holds (finite.keys m) held (λ t among. counted_once (finite.entries m) (finite.entries_sorted m) t

@@ -8,7 +8,6 @@ use Rattle.std.proofs.lemmas.List.Folds.{list_any_at}
 use Rattle.intern_log.specs.declared.event.Handle.{Handle}
 use Rattle.intern_log.specs.declared.event.Kind.TheVariants.{Weak}
 use Rattle.intern_log.specs.declared.event.What.TheVariants.{Kill}
-use Rattle.intern_log.specs.declared.text.TheConstants.{MAX_TEXT}
 use Rattle.intern_log.specs.TextMap.{TextMap, IsLive}
 use Rattle.intern_log.specs.Log.{next}
 use Rattle.intern_log.specs.Finals.{finals, is_among_texts}
@@ -139,7 +138,7 @@ module _ (bytes : List ℕ) where
       (subst (λ entries. StringListing (map (text_of bytes) last) (map (text_of bytes) literals) (pairs_of bytes entries) [] new.texts new.created killed) listed_are done)
 
   -- what is so of each text is so of each token's text
-  pub short_literals : (literals : List Token) → All (λ text. length text ≤ MAX_TEXT) (map (text_of bytes) literals) → All (λ t. length (text_of bytes t) ≤ MAX_TEXT) literals
+  pub short_literals : (literals : List Token) → All (λ text. length text ≤ 65535) (map (text_of bytes) literals) → All (λ t. length (text_of bytes t) ≤ 65535) literals
   short_literals literals short k d within =
       let here = short k (text_of bytes d) (rw length-map within) in
-      subst (λ text. length text ≤ MAX_TEXT) (get_or-map (text_of bytes) literals k d (text_of bytes d) within) here
+      subst (λ text. length text ≤ 65535) (get_or-map (text_of bytes) literals k d (text_of bytes d) within) here

@@ -5,7 +5,6 @@ use Rattle.std.proofs.lemmas.List.{length-map, map-append}
 use Rattle.std.proofs.lemmas.Bool.{le-ltb, lt-ltb, ltb-true, ltb-false}
 use Rattle.intern_log.specs.declared.event.Handle.{Handle}
 use Rattle.intern_log.specs.declared.event.What.{What}
-use Rattle.intern_log.specs.declared.event.TheConstants.{PERMANENT}
 use Rattle.intern_log.specs.declared.event.What.TheVariants.{Create, Take, Drop}
 use Rattle.intern_log.specs.TextMap.{TextMap, IsLive}
 use Rattle.intern_log.specs.Log.{next, Allows, HandlesDiffer}
@@ -24,7 +23,7 @@ use Rattle.table_program.proofs.FinalItems.{Leaves, finals-push_room, finals-pus
 use Rattle.table_program.proofs.Holds.{Holds-create, Holds-take, Holds-drop, held_is_live}
 
 -- an intern adds one hold on its text
-intern_holds : (m : TextMap) (held : List Held) (t : List ℕ) (h : Handle) (what : What) → Holds m held → IsCountedIntern t h what → Allows m what → length held < PERMANENT → Holds (next m what) (held ++ (t, h) ∷ [])
+intern_holds : (m : TextMap) (held : List Held) (t : List ℕ) (h : Handle) (what : What) → Holds m held → IsCountedIntern t h what → Allows m what → length held < 65535 → Holds (next m what) (held ++ (t, h) ∷ [])
 intern_holds m held t h what holds (inl is) allowed few =
     let create : Allows m (Create t h) = subst (Allows m) is allowed in
     subst (λ w. Holds (next m w) (held ++ (t, h) ∷ [])) (sym is) (Holds-create m held t h holds create.0)
@@ -94,7 +93,7 @@ module _ (hold : ℕ) (names : List (List ℕ)) (name : List ℕ) (h : Handle) (
       (subst (λ n. OneSeatLog (now.before.whats ++ now.what ∷ []) (next now.old_texts now.what) n) (sym now.created_are) pushed)
 
   -- with the new name in place, before anything leaves the window
-  holds_now : hold < PERMANENT → Holds texts (finals hold now.before.pairs ++ (name, h) ∷ [])
+  holds_now : hold < 65535 → Holds texts (finals hold now.before.pairs ++ (name, h) ∷ [])
   holds_now few =
       let within = length-finals hold now.before.pairs in
       subst (λ m. Holds m (finals hold now.before.pairs ++ (name, h) ∷ [])) (sym now.texts_are)
@@ -132,7 +131,7 @@ module _ (hold : ℕ) (names : List (List ℕ)) (name : List ℕ) (h : Handle) (
       omega (arith, one.no_drop, now.counts_are.dropped, now.before.few_drops)
 
   -- there is room: nothing leaves
-  pub after_room : 0 < hold → hold < PERMANENT → length window < hold → SymbolRun hold (names ++ name ∷ []) texts created (finals hold (window ++ h ∷ [])) counts
+  pub after_room : 0 < hold → hold < 65535 → length window < hold → SymbolRun hold (names ++ name ∷ []) texts created (finals hold (window ++ h ∷ [])) counts
   unfolding all_pairs
   after_room some few room =
       let fewer : length now.before.pairs < hold = omega (arith, pairs_length) in
@@ -159,11 +158,11 @@ module _ (hold : ℕ) (names : List (List ℕ)) (name : List ℕ) (h : Handle) (
   leaving_is some full k is =
       same_item _ _ (sym (ap (λ hs. slice_get hs 0) (window_now ∙ ap held_handles (leaving some full).rest)) ∙ is)
 
-  holds_leaving : (some : 0 < hold) (full : hold ≤ length window) → hold < PERMANENT → Holds texts ((leaving some full).first ∷ finals hold all_pairs)
+  holds_leaving : (some : 0 < hold) (full : hold ≤ length window) → hold < 65535 → Holds texts ((leaving some full).first ∷ finals hold all_pairs)
   unfolding all_pairs
   holds_leaving some full few = subst (Holds texts) (leaving some full).rest (holds_now few)
 
-  pub leaving_is_live : 0 < hold → hold ≤ length window → hold < PERMANENT → (k : Handle) → slice_get (window ++ h ∷ []) 0 ≡ Some k → IsLive texts k
+  pub leaving_is_live : 0 < hold → hold ≤ length window → hold < 65535 → (k : Handle) → slice_get (window ++ h ∷ []) 0 ≡ Some k → IsLive texts k
   leaving_is_live some full few k is =
       let first = (leaving some full).first in
       subst (IsLive texts) (leaving_is some full k is) (held_is_live texts (finals hold all_pairs) first.0 first.1 (holds_leaving some full few))
@@ -178,7 +177,7 @@ module _ (hold : ℕ) (names : List (List ℕ)) (name : List ℕ) (h : Handle) (
       ap (slice_get handles) index ∙ ap (λ hs. slice_get hs (length now.before.pairs - hold)) (sym (pushed_handles now.before.pairs name h)) ∙ at_place ∙ ap (λ x. Some x) (leaving_is some full k is) in
       let_go_full hold handles k (omega (arith, pairs_length)) place
 
-  pub after_full : 0 < hold → hold ≤ length window → hold + 1 < PERMANENT → (k : Handle) (dropped : SymbolCounts) → slice_get (window ++ h ∷ []) 0 ≡ Some k → CountsOneMore counts (Drop k) dropped →
+  pub after_full : 0 < hold → hold ≤ length window → hold + 1 < 65535 → (k : Handle) (dropped : SymbolCounts) → slice_get (window ++ h ∷ []) 0 ≡ Some k → CountsOneMore counts (Drop k) dropped →
       SymbolRun hold (names ++ name ∷ []) (next texts (Drop k)) created (finals hold (window ++ h ∷ [])) dropped
   unfolding all_pairs
   after_full some full few k dropped is more =

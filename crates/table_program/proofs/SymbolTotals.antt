@@ -5,7 +5,6 @@ use Rattle.std.proofs.lemmas.List.{length-map}
 use Rattle.intern_log.specs.declared.event.Handle.{Handle}
 use Rattle.intern_log.specs.declared.event.Event.{Event}
 use Rattle.intern_log.specs.declared.event.What.{What}
-use Rattle.intern_log.specs.declared.event.TheConstants.{PERMANENT}
 use Rattle.intern_log.specs.TextMap.{TextMap}
 use Rattle.intern_log.specs.Counts.{events_in, is_create, is_take, is_drop}
 use Rattle.intern_log.specs.Finals.{finals, distinct_texts}
@@ -28,7 +27,7 @@ pub events_by_seat : (test : What → Bool) (seat : ℕ) (whats : List What) →
 events_by_seat test seat whats = events_from test seat 0 whats
 
 pub symbols_of : (hold : ℕ) (names : List (List ℕ)) (texts : TextMap) (created : ℕ) (window : List Handle) (counts : SymbolCounts) →
-    hold < PERMANENT → SymbolRun hold names texts created window counts → IsSymbolsOf hold names texts counts
+    hold < 65535 → SymbolRun hold names texts created window counts → IsSymbolsOf hold names texts counts
 symbols_of hold names texts created window counts few run =
     let final : held_texts (finals hold run.pairs) ≡ finals hold names = finals-map (λ (p : Held). p.0) hold run.pairs ∙ ap (finals hold) run.names_are in
     let within = length-finals hold run.pairs in

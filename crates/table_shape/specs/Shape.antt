@@ -3,7 +3,6 @@ use Rattle.std.specs.Prelude.{◌≡◌, ℕ, ◌+◌, ◌-◌, ◌*◌, ◌^◌
 use Rattle.table_shape.specs.declared.shape.Shape.{Shape}
 use Rattle.table_shape.specs.declared.shape.ShapeFault.{ShapeFault}
 use Rattle.table_shape.specs.declared.shape.ShapeFault.TheVariants.{NoSlots, NoText, BadLevels, BadSeats, TooLarge}
-use Rattle.table_shape.specs.declared.shape.TheConstants.{MAX_TEXT_WORDS, MAX_LEVEL, MAX_SEATS, MAX_WORDS}
 
 -- how many heads so many rows have together, from the row of a level on
 abbrev pub heads_of : ℕ → ℕ → ℕ
@@ -31,13 +30,13 @@ words_of shape = slots_from shape + shape.slots * slot_words shape
 
 -- what is asked of each number of a shape
 abbrev pub HasText : Shape → Type 0
-HasText shape = (1 ≤ shape.text_words) × (shape.text_words ≤ MAX_TEXT_WORDS)
+HasText shape = (1 ≤ shape.text_words) × (shape.text_words ≤ 8192)
 
 abbrev pub HasLevels : Shape → Type 0
-HasLevels shape = (shape.min_level ≤ shape.max_level) × (shape.max_level ≤ MAX_LEVEL)
+HasLevels shape = (shape.min_level ≤ shape.max_level) × (shape.max_level ≤ 20)
 
 abbrev pub HasSeats : Shape → Type 0
-HasSeats shape = (1 ≤ shape.seats) × (shape.seats ≤ MAX_SEATS)
+HasSeats shape = (1 ≤ shape.seats) × (shape.seats ≤ 256)
 
 -- the numbers are the shape of a table
 pub record IsSound (shape : Shape) : Type 0 where
@@ -45,7 +44,7 @@ pub record IsSound (shape : Shape) : Type 0 where
   pub text : HasText shape
   pub levels : HasLevels shape
   pub seats : HasSeats shape
-  pub small : words_of shape ≤ MAX_WORDS
+  pub small : words_of shape ≤ 2 ^ 27
 
 -- the fault is the first one of these numbers
 abbrev pub IsFaultOf : Shape → ShapeFault → Type 0
@@ -53,4 +52,4 @@ IsFaultOf shape NoSlots = shape.slots ≡ 0
 IsFaultOf shape NoText = (1 ≤ shape.slots) × ¬ (HasText shape)
 IsFaultOf shape BadLevels = (1 ≤ shape.slots) × HasText shape × ¬ (HasLevels shape)
 IsFaultOf shape BadSeats = (1 ≤ shape.slots) × HasText shape × HasLevels shape × ¬ (HasSeats shape)
-IsFaultOf shape (TooLarge words) = (1 ≤ shape.slots) × HasText shape × HasLevels shape × HasSeats shape × (words ≡ words_of shape) × (MAX_WORDS < words)
+IsFaultOf shape (TooLarge words) = (1 ≤ shape.slots) × HasText shape × HasLevels shape × HasSeats shape × (words ≡ words_of shape) × (2 ^ 27 < words)

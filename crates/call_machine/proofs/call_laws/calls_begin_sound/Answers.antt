@@ -1,5 +1,5 @@
-use Rattle.call_machine.proofs.GotOrderly.{begins_soundly_law}
+use Rattle.call_machine.proofs.WholeCall.{begins_law}
 use Rattle.call_machine.proofs.call_laws.calls_begin_sound.Goals as goal
 
 pub returns : goal.returns
-returns c = record { law = begins_soundly_law }
+returns c = record { law = begins_law }

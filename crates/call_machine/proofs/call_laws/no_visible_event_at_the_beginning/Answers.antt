@@ -1,4 +1,4 @@
-use Rattle.call_machine.proofs.MadeSteps.{made_begins_law}
+use Rattle.call_machine.proofs.WholeCall.{made_begins_law}
 use Rattle.call_machine.proofs.call_laws.no_visible_event_at_the_beginning.Goals as goal
 
 pub returns : goal.returns

@@ -1,4 +1,4 @@
-use Rattle.call_machine.proofs.MadeSteps.{made_one_law}
+use Rattle.call_machine.proofs.WholeCall.{made_one_law}
 use Rattle.call_machine.proofs.call_laws.one_visible_event_at_most.Goals as goal
 
 pub returns : goal.returns

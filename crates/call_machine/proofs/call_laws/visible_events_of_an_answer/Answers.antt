@@ -1,4 +1,4 @@
-use Rattle.call_machine.proofs.MadeSteps.{made_answered_law}
+use Rattle.call_machine.proofs.WholeCall.{made_answered_law}
 use Rattle.call_machine.proofs.call_laws.visible_events_of_an_answer.Goals as goal
 
 pub returns : goal.returns

@@ -1,4 +1,4 @@
-use Rattle.call_machine.proofs.Claims.{only_interns_law}
+use Rattle.call_machine.proofs.CallClaims.{only_interns_law}
 use Rattle.call_machine.proofs.claim_laws.only_interns_claim.Goals as goal
 
 pub returns : goal.returns

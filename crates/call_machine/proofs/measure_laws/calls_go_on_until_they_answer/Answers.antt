@@ -1,4 +1,4 @@
-use Rattle.call_machine.proofs.GoesOn.{goes_on_law}
+use Rattle.call_machine.proofs.CallMeasure.{goes_on_law}
 use Rattle.call_machine.proofs.measure_laws.calls_go_on_until_they_answer.Goals as goal
 
 pub returns : goal.returns

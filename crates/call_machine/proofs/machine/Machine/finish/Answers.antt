@@ -1,7 +1,7 @@
 use Rattle.std.proofs.Common.{sym, subst}
-use Rattle.call_machine.specs.Machines.{shape_of}
+use Rattle.call_machine.specs.Machine.{shape_of}
 use Rattle.call_machine.specs.SoundMachine.{IsSoundOwn}
-use Rattle.call_machine.proofs.MachineSound.{left_law}
+use Rattle.call_machine.proofs.Machines.{left_law}
 use Rattle.call_machine.proofs.machine.Machine.finish.Goals as goal
 
 pub returns-clause-sound : goal.returns-clause-sound

@@ -1,0 +1,4 @@
+pub mod Choices
+pub mod Runs
+pub mod Words
+pub mod Found

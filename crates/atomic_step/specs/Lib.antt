@@ -1,0 +1,14 @@
+pub mod Access
+pub mod Count
+pub mod Step
+pub mod Event
+pub mod SoundStep
+pub mod Turn
+pub mod Run
+pub mod Monitor
+pub mod Kind
+pub mod EventWord
+pub mod NamedWord
+pub mod Table
+pub mod WorkedRun
+pub mod Found

@@ -1,5 +1,0 @@
-use Rattle.call_machine.proofs.SlotSteps.{slot_begins_law}
-use Rattle.call_machine.proofs.section_laws.calls_begin_without_a_slot.Goals as goal
-
-pub returns : goal.returns
-returns c = record { law = slot_begins_law }

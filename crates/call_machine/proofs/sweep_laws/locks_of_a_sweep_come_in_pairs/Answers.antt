@@ -1,0 +1,5 @@
+use Rattle.call_machine.proofs.WholeSweep.{locks_law, locks_end}
+use Rattle.call_machine.proofs.sweep_laws.locks_of_a_sweep_come_in_pairs.Goals as goal
+
+pub returns : goal.returns
+returns c = record { run = locks_law; end = locks_end }

@@ -1,5 +1,0 @@
-use Rattle.call_machine.proofs.WholeRuns.{paired_slots_law}
-use Rattle.call_machine.proofs.whole_laws.claims_of_a_call_come_in_pairs.Goals as goal
-
-pub returns : goal.returns
-returns c = record { law = paired_slots_law }
