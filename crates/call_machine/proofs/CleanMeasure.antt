@@ -1,7 +1,8 @@
 -- A poll of a clean goes on in time.
-use Rattle.std.proofs.Common.{◌≡◌, ◌≢◌, ◌∙◌, ◌<◌, ◌≤◌, ◌+◌, ◌-◌, ◌*◌, ◌/◌, ◌^◌, ◌==◌, ℕ, cond, Option, Some, None, List, [], ◌∷◌, ◌++◌, length, length-append, refl, ap}
+use Rattle.std.proofs.Common.{◌≡◌, ◌≢◌, ◌∙◌, ◌<◌, ◌≤◌, ◌+◌, ◌-◌, ◌*◌, ◌/◌, ◌^◌, ◌==◌, ℕ, cond, Option, Some, None, List, [], ◌∷◌, ◌++◌, length, length-append, refl, ap, subst, suc, suc-mul}
 use native.Mathlib.Omega.{arith}
 use Rattle.std.specs.Prelude.{min, nat_lt}
+use Rattle.std.proofs.Math.Nat.{mul-le-mul_right}
 use Rattle.std.proofs.lemmas.Bool.{ltb-true}
 use Rattle.section_core.specs.Words.{waits_for}
 use Rattle.marked_word.specs.Head.{is_locked, first_of}
@@ -28,7 +29,7 @@ use Rattle.call_machine.specs.declared.pass.FreeStage.TheVariants.{PutNextGenera
 use Rattle.call_machine.specs.declared.pass.PassStage.TheVariants.{LoadCount, LoadLink, Unlink}
 use Rattle.call_machine.specs.declared.pass.Waiting.{Waiting}
 use Rattle.call_machine.specs.Clean.{Went, goes, waits_at, raises, cleans_on, locks_on, counts_pass, ends, next_bucket, graces_on, frees_on, clean_row}
-use Rattle.call_machine.specs.CleanMeasure.{passes, most_full, buckets_left, rounds_left, round, left, IsLoaded, IsOnPoll, one_poll}
+use Rattle.call_machine.specs.CleanMeasure.{passes, most_full, buckets_left, rounds_left, steps_left, round, left, IsLoaded, IsOnPoll, one_poll}
 use Rattle.call_machine.specs.SweepMeasure.{free_left}
 use Rattle.call_machine.specs.WholeClean.{polled_on, cleans, begun}
 use Rattle.call_machine.proofs.FullPasses.{few_step, few_at_law}
@@ -202,3 +203,40 @@ in_time_law shape c (word ∷ words) table on fits =
 
 pub on_poll_law : (shape : Shape) (level : ℕ) (words : List ℕ) → IsSound shape → IsLevel shape level → AreFitting (cleans shape) (begun level) words → let c = after_words (cleans shape) (begun level) words in IsOnPoll shape (c.0, c.1)
 on_poll_law shape level words table is fits = ((keeps (cleans shape) (Keeps shape) (got_keeps shape table) (begun level) words (begins shape level is) fits).0, few_at_law shape level words fits)
+
+-- the most that a poll has left
+rounds_below : (n b full one : ℕ) (passed : ℕ) → b < n → one ≤ 1 → (n - (b + 1)) * (full + 1) + (full - passed) + one ≤ n * (full + 1)
+rounds_below n b full one passed below few =
+    let next : n - b ≡ suc (n - (b + 1)) = omega (arith, below) in
+    let whole = ap (λ k. k * (full + 1)) next ∙ suc-mul (n - (b + 1)) (full + 1) in
+    let less : n - b ≤ n = omega arith in
+    let most : (n - b) * (full + 1) ≤ n * (full + 1) = grind (arith, less) in
+    omega (arith, whole, most, few)
+
+rounds_most : (shape : Shape) (w : CleanAlong) (s : CleanStage) → w.cleaning.bucket < 2 ^ w.cleaning.row → rounds_left shape w s ≤ 2 ^ w.cleaning.row * (passes shape + 1)
+rounds_most shape w (Lock s) below = rounds_below (2 ^ w.cleaning.row) w.cleaning.bucket (passes shape) _ w.full_passes below (omega arith)
+rounds_most shape w (Pass s) below = rounds_below (2 ^ w.cleaning.row) w.cleaning.bucket (passes shape) _ w.full_passes below (omega arith)
+rounds_most shape w UnlockHead below = rounds_below (2 ^ w.cleaning.row) w.cleaning.bucket (passes shape) _ w.full_passes below (omega arith)
+rounds_most shape w (Grace Again s) below = rounds_below (2 ^ w.cleaning.row) w.cleaning.bucket (passes shape) 1 w.full_passes below (omega arith)
+rounds_most shape w (Free Again s) below = rounds_below (2 ^ w.cleaning.row) w.cleaning.bucket (passes shape) 1 w.full_passes below (omega arith)
+rounds_most shape w _ below = omega arith
+
+steps_most : (shape : Shape) (w : CleanAlong) (s : CleanStage) → steps_left shape w s ≤ round shape
+steps_most shape w (Lock (LockHead head)) = omega arith
+steps_most shape w (Pass (LoadLink x dead)) = omega arith
+steps_most shape w (Grace freeing LoadSection) = omega arith
+steps_most shape w (Free freeing (FreeSlot at)) = omega arith
+steps_most shape w _ = omega arith
+
+most_below : (len rounds steps n round : ℕ) → len ≤ rounds * round + steps → rounds ≤ n → steps ≤ round → len ≤ (n + 1) * round
+most_below len rounds steps n round time few short =
+    let times : rounds * round ≤ n * round = mul-le-mul_right round few in
+    let whole : (n + 1) * round ≡ n * round + round = grind arith in
+    omega (arith, time, times, short, whole)
+
+pub most_law : (shape : Shape) (c : CleanAlong × CleanStage) (words : List ℕ) → IsSound shape → IsOnPoll shape c → AreFitting (one_poll shape) c words →
+    length words ≤ (2 ^ c.0.cleaning.row * (shape.slots / 256 + 2) + 1) * (518 + shape.seats + 3 * shape.slots)
+most_law shape c words table on fits =
+    let same : passes shape + 1 ≡ shape.slots / 256 + 2 = omega arith in
+    let rounds = subst (λ k. rounds_left shape c.0 c.1 ≤ 2 ^ c.0.cleaning.row * k) same (rounds_most shape c.0 c.1 on.0.cleaning.bucket) in
+    most_below (length words) (rounds_left shape c.0 c.1) (steps_left shape c.0 c.1) (2 ^ c.0.cleaning.row * (shape.slots / 256 + 2)) (round shape) (in_time_law shape c words table on fits) rounds (steps_most shape c.0 c.1)

@@ -28,3 +28,4 @@ pub mod SweepMeasure
 pub mod FullPasses
 pub mod WorkLock
 pub mod CleanMeasure
+pub mod WorkRuns

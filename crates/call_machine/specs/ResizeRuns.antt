@@ -11,6 +11,8 @@ use Rattle.atomic_step.specs.declared.plan.Plan.TheVariants as plan
 use Rattle.atomic_step.specs.declared.step.Step.TheVariants as step
 use Rattle.atomic_step.specs.Run.{Machine, AreFitting, after_words, events_of_words, cost_of_words}
 use Rattle.atomic_step.specs.Turn.{Row, map_row, plan_in}
+use Rattle.intern_log.specs.declared.event.Kind.TheVariants.{Counted}
+use Rattle.call_machine.specs.declared.caller.Caller.{Caller}
 use Rattle.call_machine.specs.declared.resize.AfterGrace.{AfterGrace}
 use Rattle.call_machine.specs.declared.resize.AfterGrace.TheVariants as after
 use Rattle.call_machine.specs.declared.resize.Direction.{Direction}
@@ -77,3 +79,7 @@ moves_of_run shape d level words = cost_of_words (resizes shape d) (λ at word. 
 -- a small table, for runs that are worked by hand
 abbrev pub two_slots : Shape
 two_slots = record { slots = 2; text_words = 1; min_level = 0; max_level = 1; seats = 1 }
+
+-- its only seat
+abbrev pub worked_caller : Caller
+worked_caller = record { kind = Counted; shape = two_slots; seed = 0; number = 0; cursor = 0 }

@@ -10,7 +10,6 @@ ghost use Rattle.call_machine.specs.Calls.{next_at};
 ghost use Rattle.call_machine.specs.Caller.{IsSoundCaller};
 ghost use Rattle.call_machine.specs.SoundCall.{IsHandle, IsSoundCall, FitsAt, FitsCall};
 ghost use Rattle.call_machine.specs.Sought.{IsSought, asked_of};
-ghost use Rattle.table_shape.specs.Shape.{IsSound};
 
 use crate::caller::Caller;
 use crate::draw::DrawStage;
@@ -26,7 +25,6 @@ use intern_log::{Handle, What};
 use marked_word::first_of;
 use std::alloc::{AllocError, Global};
 use std::marker::Model;
-use table_shape::Shape;
 
 /// A call on its way.
 #[derive(Drop)]
@@ -236,14 +234,6 @@ impl<'t> CallMachine<'t> {
             CallStage::Answered(answer) => (self.along.cursor, answer),
             _ => unreachable!(),
         }
-    }
-
-    /// The shape of the table.
-    pub fn shape(&self) -> Shape
-        ensures value { result ≡ self.now.asked.shape }
-        ensures sound { IsSound result }
-    {
-        self.request.shape
     }
 
     /// The number of the seat.

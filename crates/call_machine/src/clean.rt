@@ -293,11 +293,4 @@ impl Clean {
             _ => None,
         }
     }
-
-    /// The level to which the clean leads: that of its beginning.
-    pub(crate) fn end_level(&self) -> u8
-        ensures value { result ≡ self.now.along.cleaning.row }
-    {
-        self.along.cleaning.row
-    }
 }

@@ -1,6 +1,6 @@
 //! Laws of a clean, of each of its steps and over all its polls.
 //! Each function does nothing: its contract is the law.
-ghost use Rattle.std.specs.Prelude.{◌≡◌, ◌⊎◌, ℕ, ◌+◌, ◌/◌, ◌<◌, ◌≤◌, ◌^◌, List, [], ◌∷◌, Some, None, length};
+ghost use Rattle.std.specs.Prelude.{◌≡◌, ◌⊎◌, ℕ, ◌+◌, ◌*◌, ◌/◌, ◌<◌, ◌≤◌, ◌^◌, List, [], ◌∷◌, Some, None, length};
 ghost use Rattle.intern_log.specs.declared.event.What.TheVariants as what;
 ghost use Rattle.table_shape.specs.declared.shape.Shape.{Shape};
 ghost use Rattle.table_shape.specs.Shape.{IsSound};
@@ -60,13 +60,15 @@ pub fn full_passes_of_a_poll_are_few()
 {}
 
 /// Where a chain has at most as many nodes as the table has slots, each step of a poll after the level was loaded lowers how many
-/// are left, unless the poll answers.
+/// are left, unless the poll answers. So it makes at most `(2^level * (slots / 256 + 2) + 1) * (518 + seats + 3 * slots)` of them.
 pub fn a_poll_of_a_clean_answers_in_time()
     ensures polls { (shape : Shape) (level : ℕ) (words : List ℕ) → IsSound shape → IsLevel shape level → AreFitting (cleans shape) (begun level) words →
         let c = after_words (cleans shape) (begun level) words in IsOnPoll shape (c.0, c.1) }
     ensures step { (shape : Shape) (c : CleanAlong × CleanStage) (word : ℕ) → IsSound shape → IsOnPoll shape c → (one_poll shape).Fits c word →
         let next = (one_poll shape).got c word in left shape next.0 next.1 < left shape c.0 c.1 }
     ensures run { (shape : Shape) (c : CleanAlong × CleanStage) (words : List ℕ) → IsSound shape → IsOnPoll shape c → AreFitting (one_poll shape) c words → length words ≤ left shape c.0 c.1 }
+    ensures most { (shape : Shape) (c : CleanAlong × CleanStage) (words : List ℕ) → IsSound shape → IsOnPoll shape c → AreFitting (one_poll shape) c words →
+        length words ≤ (2 ^ c.0.cleaning.row * (shape.slots / 256 + 2) + 1) * (518 + shape.seats + 3 * shape.slots) }
 {}
 
 /// A clean stores no level, and gives the resize lock back once, at its end alone.

@@ -51,6 +51,7 @@ pub mod sweep_laws;
 #[cfg(test)]
 mod tests;
 pub mod work;
+pub mod work_laws;
 
 pub use atomic_step::{Answer, Op, Place, Shape, ShapeFault, StepKind, Want, Worked};
 pub use call::Call;

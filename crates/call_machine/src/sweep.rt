@@ -37,7 +37,7 @@ pub enum Closing {
 /// Where a sweep stands.
 #[derive(Clone, Copy, Debug, PartialEq, Eq)]
 pub enum SweepStage {
-    /// The counter is loaded, behind which nothing begins any more.
+    /// The counter is loaded: where it has grown to 2^48 nothing begins any more.
     Check,
     /// The head of the bucket is looked for.
     Find(FindStage),

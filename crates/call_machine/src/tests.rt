@@ -12,7 +12,7 @@
 //!   nothing, a store `= 7`, a swap `<- 1`, an addition `+ 2`, and an exchange `: 0 > 12`.
 //! - `Dropped { left: 2 }`: the call answers.
 //! - `passed 1`, `cursor 3`, `keeps work`: how many nodes the last call passed, where the cursor of the seat is, and
-//!   what it has unfinished.
+//!   what it has unfinished. `asks [97]`: the bytes of the text of the call that goes on.
 //! - `left count 3 = 2.3`: a word that the calls changed. No other word is another than before.
 //!
 //! A count is written with its generation before it, a meta with its hash before it, and a text word in quotes. An
@@ -20,7 +20,7 @@
 use crate::call::Call;
 use crate::{
     begin_laws, call_laws, claim_laws, clean_laws, grace_laws, machine_laws, measure_laws,
-    resize_laws, section_laws, sweep_laws,
+    resize_laws, section_laws, sweep_laws, work_laws,
 };
 use intern_log::Kind;
 use seat::{Act, Seat};
@@ -130,6 +130,7 @@ impl<'t> Player<'t> {
         let found = match verb {
             "passed" => format!(in self.alloc; "passed {}", self.seat.passed())?,
             "cursor" => format!(in self.alloc; "cursor {}", self.seat.cursor())?,
+            "asks" => format!(in self.alloc; "asks {:?}", self.seat.text())?,
             "keeps" => format!(in self.alloc; "keeps {}", self.seat.keeps())?,
             _ => self.acted(rt, item)?,
         };
@@ -302,6 +303,7 @@ fn laws_can_be_called() {
     measure_laws::runs_are_no_longer_than_what_is_left();
     measure_laws::calls_go_on_until_they_answer();
     measure_laws::calls_answer_in_time();
+    measure_laws::worked_runs_are_counted();
     resize_laws::resizes_begin_sound();
     resize_laws::steps_keep_a_resize_sound();
     resize_laws::heads_locked_by_a_resize();
@@ -327,4 +329,7 @@ fn laws_can_be_called() {
     sweep_laws::a_sweep_answers_with_how_many_slots_it_unlinked();
     sweep_laws::slots_of_a_sweep_are_freed_in_the_order_of_their_unlinking();
     sweep_laws::a_sweep_goes_on_in_time();
+    work_laws::polls_of_a_work_follow_one_another();
+    work_laws::cleans_are_polled_as_works();
+    work_laws::resizes_are_polled_as_works();
 }

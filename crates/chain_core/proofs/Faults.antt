@@ -9,7 +9,8 @@ use Rattle.chain_core.specs.Path.{Leads, IsPathWithin}
 use Rattle.chain_core.specs.declared.chain.PathFault.{PathFault}
 use Rattle.chain_core.specs.declared.chain.PathFault.TheVariants.{Outside, Loop, OutOfMemory}
 use Rattle.chain_core.specs.Faults.{IsWay, IsFaultWithin, IsFirstOutside, IsFirstMetAgain}
-use Rattle.chain_core.proofs.Members.{On, Once, On-from_Contains, Contains-from_On, Once-from_AllPairs, AllPairs-from_Once, on_all, on_right, once_parts, on_or_not, once_push, once_within}
+use Rattle.chain_core.specs.Nodes.{On, Once}
+use Rattle.chain_core.proofs.Members.{On-from_Contains, Contains-from_On, Once-from_AllPairs, AllPairs-from_Once, on_all, on_right, once_parts, on_or_not, once_push, once_within}
 use Rattle.chain_core.proofs.Ways.{path_after, path_once, path_begins, way_begins, ways_meet, leads_on}
 
 -- a path and a node without a link

@@ -7,17 +7,8 @@ use Rattle.std.proofs.Math.Dec.{eqb}
 use Rattle.std.proofs.lemmas.Bool.{eq-eqb, ne_eqb, eqb-true, cases_eq}
 use Rattle.std.proofs.lemmas.Map.Views.{Contains-from_any}
 use Rattle.std.proofs.lemmas.Map.Steps.{length-le_from_distinct_below}
+use Rattle.chain_core.specs.Nodes.{On, Once}
 use Rattle.chain_core.specs.Path.{without}
-
--- the node stands on the list
-abbrev pub On : ℕ → List ℕ → Type 0
-On node [] = ⊥
-On node (x ∷ xs) = (x ≡ node) ⊎ On node xs
-
--- no node stands on the list twice
-abbrev pub Once : List ℕ → Type 0
-Once [] = Unit {0}
-Once (x ∷ xs) = (On x xs → ⊥) × Once xs
 
 on_at : (xs : List ℕ) (k node : ℕ) → k < length xs → get_or xs k node ≡ node → On node xs
 on_at [] k node below is = absurd (omega (arith, below))

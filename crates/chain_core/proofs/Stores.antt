@@ -4,7 +4,8 @@ use Rattle.std.specs.List.{Contains, AllPairs}
 use Rattle.std.specs.Prelude.{◌≢◌}
 use Rattle.std.proofs.lemmas.Bool.{cases_eq, eq-eqb, ne_eqb}
 use Rattle.chain_core.specs.Path.{Leads, IsPath, next_with, without}
-use Rattle.chain_core.proofs.Members.{On, On-from_Contains, Contains-from_On, Once-from_AllPairs, without-here, without-other, without-absent}
+use Rattle.chain_core.specs.Nodes.{On}
+use Rattle.chain_core.proofs.Members.{On-from_Contains, Contains-from_On, Once-from_AllPairs, without-here, without-other, without-absent}
 use Rattle.chain_core.proofs.Ways.{leads_stays, way_without, path_once, path_appended}
 
 pub with_here : (next : ℕ → Option ℕ) (node : ℕ) (to : Option ℕ) → next_with next node to node ≡ to

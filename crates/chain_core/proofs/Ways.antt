@@ -3,7 +3,8 @@ use Rattle.std.proofs.Common.{◌≡◌, ◌≤◌, ℕ, suc, List, [], ◌∷�
 use native.Mathlib.Omega.{arith}
 use Rattle.std.proofs.lemmas.Bool.{cases_eq}
 use Rattle.chain_core.specs.Path.{Leads, IsPath, without}
-use Rattle.chain_core.proofs.Members.{On, Once, without-absent, without-here, without-other}
+use Rattle.chain_core.specs.Nodes.{On, Once}
+use Rattle.chain_core.proofs.Members.{without-absent, without-here, without-other}
 
 same_node : (a b : ℕ) → Some a ≡ Some b → a ≡ b
 same_node a b same = cc

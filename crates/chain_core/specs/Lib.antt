@@ -1,3 +1,4 @@
 pub mod Path
 pub mod Faults
 pub mod Worked
+pub mod Nodes

@@ -1,7 +1,7 @@
 -- The last link of a way, and where a way goes in the middle.
 use Rattle.std.proofs.Common.{◌≡◌, ℕ, List, [], ◌∷◌, ◌++◌, ◌⊎◌, ⊎_elim, inl, inr, Option, Some, None, refl, ap}
 use Rattle.chain_core.specs.Path.{Leads, IsPath}
-use Rattle.chain_core.proofs.Members.{On}
+use Rattle.chain_core.specs.Nodes.{On}
 use Rattle.resize_core.specs.declared.moves.Place.{Place}
 use Rattle.resize_core.specs.declared.moves.Place.TheVariants.{Link}
 use Rattle.resize_core.specs.Moves.{end_of}

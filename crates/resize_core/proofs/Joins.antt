@@ -4,7 +4,8 @@ use Rattle.std.specs.List.{All, slice_get}
 use Rattle.std.proofs.lemmas.List.Elements.{All-nil, All-cons, All-append}
 use native.Mathlib.Omega.{arith}
 use Rattle.chain_core.specs.Path.{IsPathIn, next_in}
-use Rattle.chain_core.proofs.Members.{On, on_all}
+use Rattle.chain_core.specs.Nodes.{On}
+use Rattle.chain_core.proofs.Members.{on_all}
 use Rattle.resize_core.specs.declared.moves.Heads.{Heads}
 use Rattle.resize_core.specs.declared.moves.Move.{Move}
 use Rattle.resize_core.specs.declared.moves.Place.{Place}

@@ -3,7 +3,8 @@ use Rattle.std.proofs.Common.{◌≡◌, ℕ, suc, List, [], ◌∷◌, ◌++◌
 use Rattle.std.specs.List.{Contains, filter, slice_get}
 use Rattle.std.proofs.lemmas.Bool.{not-true, not_from_true, not_from_false, cases_Bool}
 use Rattle.chain_core.specs.Path.{Leads, IsPath, next_with, without}
-use Rattle.chain_core.proofs.Members.{On, Once, On-from_Contains, Contains-from_On, on_left, on_either, once_parts, without-here, without-absent, without-other}
+use Rattle.chain_core.specs.Nodes.{On, Once}
+use Rattle.chain_core.proofs.Members.{On-from_Contains, Contains-from_On, on_left, on_either, once_parts, without-here, without-absent, without-other}
 use Rattle.chain_core.proofs.Ways.{path_once}
 use Rattle.chain_core.proofs.Stores.{way_elsewhere, path_past, path_joined}
 use Rattle.resize_core.specs.declared.moves.Heads.{Heads}

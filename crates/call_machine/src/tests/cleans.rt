@@ -55,7 +55,7 @@ slot 1 281474976710655.0 0; head 1.1 = 8
 cleans 0 1; locks 1 0 0 1; unlocks 1 0 0; locks 1 1 8 9; passes 1; K16 head 1.1 = 1 Unlink(1); unlocks 1 1 0; gives
 done 1 0 1; left head 1.1 = 0
 # counted 1 281474976710656: sweep at a counter of 2^48
-seat 0; sweep a; K9 counter; Spent { counter: 281474976710656 }
+seat 0; sweep a; asks []; K9 counter; Spent { counter: 281474976710656 }
 # counted 1 6: sweep whose head is locked, then exchanged by another, with a section open for a time
 slot 0 2.0 2; slot 1 0.1 0; head 1.1 = 5
 seat 1; sweep a; K9 counter; finds 1 6 7 1.1; closes 1; opens 1 6 7; K19 level; head 1.1 = 4; K5 head 1.1

@@ -2,7 +2,7 @@
 pub(crate) static SCENES: &str = "
 8 2 3 4 4
 # counted 3 6: look-up in a bucket with no node
-seat 1 2; lookup a; finds 1 6 7 3.1; closes 1; Miss; cursor 2
+seat 1 2; lookup a; asks [97]; finds 1 6 7 3.1; closes 1; Miss; cursor 2
 # weak 3 6: look-up in a weak table, where another bucket has a node
 node 0 0.1 2112.2 'Aa' 0; head 3.0 = 4
 seat 1 2; lookup a; finds 1 6 7 3.1; closes 1; Miss; cursor 2
@@ -68,5 +68,5 @@ slot 0 1.1 0; head 3.0 = 4
 seat 1 2; lookup; finds 1 6 7 3.0; K6 meta 0; K6 count 0; K8 count 0: 1.1 > 1.2 Take(0, 1); closes 1
 answers Hit 0 1 2; left count 0 = 1.2
 # counted 3 6: look-up of a text of 17 bytes, which has no entry in a table with two words for a text
-seat 1 2; lookup aaaaaaaaaaaaaaaaa; Miss; cursor 2
+seat 1 2; lookup aaaaaaaaaaaaaaaaa; asks []; Miss; cursor 2
 ";

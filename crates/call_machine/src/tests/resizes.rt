@@ -45,34 +45,12 @@ left head 3.0 = 3; left head 3.1 = 19; left head 3.2 = 3; left head 3.3 = 3; lef
 left head 3.6 = 3; left head 3.7 = 3; left head 4.1 = 16; left head 4.9 = 12; left link 3 = 2; left link 2 = 1
 left link 1 = 0; left counter = 10; left level = 4
 # counted 4 10: shrink that joins two buckets of two
-node 0 0.1 121.1 'y' 0; node 1 0.1 113.1 'q' 0; node 2 0.1 105.1 'i' 1; node 3 0.1 97.1 'a' 2; head 3.0 = 3
-head 3.1 = 19; head 3.2 = 3; head 3.3 = 3; head 3.4 = 3; head 3.5 = 3; head 3.6 = 3; head 3.7 = 3; head 4.1 = 16
-head 4.9 = 12
-resizes 2 shrink 3 4; joins 4 0 3 8; long_grace; unlocks 3 0 0; locks 4 1 16 17; locks 4 9 12 13; makes 3 1 17
-K6 link 3; K6 link 1; K26 link 1 = 3; K23 head 4.1 = 19; K23 head 4.9 = 15; long_grace; unlocks 3 1 16; joins 4 2 3 10
-long_grace; unlocks 3 2 0; joins 4 3 3 11; long_grace; unlocks 3 3 0; joins 4 4 3 12; long_grace; unlocks 3 4 0
-joins 4 5 3 13; long_grace; unlocks 3 5 0; joins 4 6 3 14; long_grace; unlocks 3 6 0; joins 4 7 3 15; long_grace
-unlocks 3 7 0; K25 level = 3 Level(3); long_grace; ends 3 9; passed 0; keeps nothing; left head 4.0 = 3
-left head 4.8 = 3; left head 3.0 = 0; left head 4.1 = 19; left head 4.9 = 15; left head 3.1 = 16; left head 4.2 = 3
-left head 4.10 = 3; left head 3.2 = 0; left head 4.3 = 3; left head 4.11 = 3; left head 3.3 = 0; left head 4.4 = 3
-left head 4.12 = 3; left head 3.4 = 0; left head 4.5 = 3; left head 4.13 = 3; left head 3.5 = 0; left head 4.6 = 3
-left head 4.14 = 3; left head 3.6 = 0; left head 4.7 = 3; left head 4.15 = 3; left head 3.7 = 0; left link 1 = 3
-left counter = 28; left level = 3
+two_chains
+resizes 2 shrink 3 4; joins 4 0 3 8; long_grace; shrinks_on
 # counted 4 10: shrink that joins two buckets of two, with a section open at the first grace
-node 0 0.1 121.1 'y' 0; node 1 0.1 113.1 'q' 0; node 2 0.1 105.1 'i' 1; node 3 0.1 97.1 'a' 2; head 3.0 = 3
-head 3.1 = 19; head 3.2 = 3; head 3.3 = 3; head 3.4 = 3; head 3.5 = 3; head 3.6 = 3; head 3.7 = 3; head 4.1 = 16
-head 4.9 = 12; section 1 = 11
+two_chains; section 1 = 11
 resizes 2 shrink 3 4; joins 4 0 3 8; short_grace; PendingSeat { seat: 1 }; section 1 = 0
-poll work; K13 section 1; K13 section 2; K13 section 3; unlocks 3 0 0; locks 4 1 16 17; locks 4 9 12 13; makes 3 1 17
-K6 link 3; K6 link 1; K26 link 1 = 3; K23 head 4.1 = 19; K23 head 4.9 = 15; long_grace; unlocks 3 1 16; joins 4 2 3 10
-long_grace; unlocks 3 2 0; joins 4 3 3 11; long_grace; unlocks 3 3 0; joins 4 4 3 12; long_grace; unlocks 3 4 0
-joins 4 5 3 13; long_grace; unlocks 3 5 0; joins 4 6 3 14; long_grace; unlocks 3 6 0; joins 4 7 3 15; long_grace
-unlocks 3 7 0; K25 level = 3 Level(3); long_grace; ends 3 9; passed 0; keeps nothing; left head 4.0 = 3
-left head 4.8 = 3; left head 3.0 = 0; left head 4.1 = 19; left head 4.9 = 15; left head 3.1 = 16; left head 4.2 = 3
-left head 4.10 = 3; left head 3.2 = 0; left head 4.3 = 3; left head 4.11 = 3; left head 3.3 = 0; left head 4.4 = 3
-left head 4.12 = 3; left head 3.4 = 0; left head 4.5 = 3; left head 4.13 = 3; left head 3.5 = 0; left head 4.6 = 3
-left head 4.14 = 3; left head 3.6 = 0; left head 4.7 = 3; left head 4.15 = 3; left head 3.7 = 0; left link 1 = 3
-left counter = 28; left level = 3
+poll work; K13 section 1; K13 section 2; K13 section 3; shrinks_on
 ";
 
 /// The counter is two below 2^63 as the work begins, so that its next grace is its last.

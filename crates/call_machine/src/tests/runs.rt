@@ -33,6 +33,15 @@ unlinks ROW BUCKET SLOT HEAD: passes $3; K16 head $1.$2 = $4 Unlink($3)
 frees_for_good SLOT COUNT: frees $1 $2; left count $1 = $2; left claim $1 = 0
 parts ROW BUCKET NEW_ROW ODD_BUCKET: locks $1 $2 0 1; makes $3 $2 1; makes $3 $4 1; K23 head $1.$2 = 3; unlocks $3 $2 0; unlocks $3 $4 0
 joins ROW BUCKET NEW_ROW ODD_BUCKET: locks $1 $2 0 1; locks $1 $4 0 1; makes $3 $2 1; K23 head $1.$2 = 3; K23 head $1.$4 = 3
+joins_empty EVEN ODD: locks 4 $1 0 1; locks 4 $2 0 1; makes 3 $1 1; K23 head 4.$1 = 3; K23 head 4.$2 = 3; short_grace; \
+    K13 section 2; K13 section 3; unlocks 3 $1 0; left head 4.$1 = 3; left head 4.$2 = 3; left head 3.$1 = 0
+two_chains: node 0 0.1 121.1 'y' 0; node 1 0.1 113.1 'q' 0; node 2 0.1 105.1 'i' 1; node 3 0.1 97.1 'a' 2; head 3.0 = 3; \
+    head 3.1 = 19; head 3.2 = 3; head 3.3 = 3; head 3.4 = 3; head 3.5 = 3; head 3.6 = 3; head 3.7 = 3; head 4.1 = 16; head 4.9 = 12
+shrinks_on: unlocks 3 0 0; locks 4 1 16 17; locks 4 9 12 13; makes 3 1 17; K6 link 3; K6 link 1; K26 link 1 = 3; K23 head 4.1 = 19; \
+    K23 head 4.9 = 15; long_grace; unlocks 3 1 16; joins_empty 2 10; joins_empty 3 11; joins_empty 4 12; joins_empty 5 13; \
+    joins_empty 6 14; joins_empty 7 15; K25 level = 3 Level(3); long_grace; ends 3 9; passed 0; keeps nothing; left head 4.0 = 3; \
+    left head 4.8 = 3; left head 3.0 = 0; left head 4.1 = 19; left head 4.9 = 15; left head 3.1 = 16; left link 1 = 3; \
+    left counter = 28; left level = 3
 ends LEVEL GRACES: K22 new = 0; gives; done 0 $2 $1
 done UNLINKED GRACES LEVEL: Done(Worked { unlinked: $1, graces: $2, level: $3 })
 ";

@@ -154,6 +154,14 @@ impl<'t> Seat<'t> {
         }
     }
 
+    /// The text of the call that goes on.
+    pub(crate) fn text(&self) -> &[u8] {
+        match &self.call {
+            Some(call) => call.text(),
+            None => b"",
+        }
+    }
+
     /// What is unfinished.
     pub(crate) fn keeps(&self) -> &'static str {
         match (self.own.work.is_some(), self.own.grace.is_some()) {

@@ -1,0 +1,77 @@
+-- What any machine knows as it finds a word, from what the words show and what its seat knows and owes.
+use Rattle.std.proofs.Common.{◌≡◌, ℕ, List, Option, Some, None, refl, sym, subst, ◌∙◌, inl, inr}
+use Rattle.std.specs.Prelude.{IfSome}
+use Rattle.table_shape.specs.declared.shape.Shape.{Shape}
+use Rattle.intern_log.specs.declared.event.Event.{Event}
+use Rattle.atomic_step.specs.declared.answer.Answer.{Answer}
+use Rattle.atomic_step.specs.declared.plan.Plan.TheVariants as plan
+use Rattle.atomic_step.specs.declared.step.Step.{Step}
+use Rattle.call_machine.specs.declared.caller.Caller.{Caller}
+use Rattle.call_machine.specs.declared.clean.CleanAlong.{CleanAlong}
+use Rattle.call_machine.specs.declared.clean.CleanStage.{CleanStage}
+use Rattle.call_machine.specs.declared.clean.CleanStage.TheVariants as clean
+use Rattle.call_machine.specs.declared.lock.LockStage.TheVariants as lock
+use Rattle.call_machine.specs.declared.machine.Machine.{Machine}
+use Rattle.call_machine.specs.declared.machine.Machine.TheVariants as machine
+use Rattle.call_machine.specs.declared.work.Work.{Work}
+use Rattle.call_machine.specs.declared.work.Work.TheVariants as work
+use Rattle.call_machine.specs.Clean.{clean_row}
+use Rattle.call_machine.specs.Machine.{plan_of}
+use Rattle.call_machine.specs.Poll.{poll_plan, polling, work_left}
+use Rattle.call_machine.specs.SoundClean.{IsSoundClean}
+use Rattle.call_machine.specs.Work.{IsSoundWork}
+use Rattle.call_machine.specs.WholeClean as cleans
+use Rattle.call_machine.proofs.Machines.{plan_part, plan_is}
+use Rattle.cht_core.specs.declared.seat.Seat.TheVariants as doing
+use Rattle.cht_core.specs.declared.table.Table.{Table}
+use Rattle.cht_core.specs.Caused.{Hears}
+use Rattle.cht_core.specs.Causes.{CleanHears, PollHears}
+use Rattle.cht_core.specs.Flow.{Flow}
+use Rattle.cht_core.specs.HeadKept.{CleanHeaded, WorkHeaded, Headed}
+use Rattle.cht_core.specs.KnowsWork.{KnowsCleaning, KnowsWork}
+use Rattle.cht_core.specs.Memory.{Memory, found}
+use Rattle.cht_core.specs.Owes.{Owes, locked_in_work}
+use Rattle.cht_core.specs.Past.{Past, past_of}
+use Rattle.cht_core.specs.TableState.{IsTable}
+use Rattle.cht_core.specs.View.{IsOfSeat, KnowsMachine}
+use Rattle.cht_core.proofs.CauseHears.{IsFound, call_hears, begin_hears}
+
+module _ (t : Table) (m : Memory) (f : Flow) (i load : ℕ) (log : List Event) where
+  abbrev Now' : Past
+  Now' = past_of t.shape.min_level log
+
+  clean_hears : (shape : Shape) (w : CleanAlong) (s : CleanStage) (word : ℕ) → IsSoundClean shape w s → KnowsCleaning m Now' f i w s →
+      ((row bucket : ℕ) → Now'.now.lock row bucket ≡ Some i → cleans.locked_at w.cleaning s ≡ Some (row, bucket)) → CleanHeaded t m i load log w s None →
+      IsFound m (plan.Step (clean_row shape w s).step) word →
+      CleanHears t Now' f i load log w s word
+  clean_hears shape w (clean.Lock lock.LoadHead) word sound knows owes head is =
+      ((knows.0, sound.cleaning.bucket), λ mine. (let clash : None ≡ Some (w.cleaning.row, w.cleaning.bucket) = owes w.cleaning.row w.cleaning.bucket mine in cc))
+  clean_hears shape w (clean.Lock (lock.LockHead h)) word sound knows owes head is = elim (head.says (sound.step 0).1) [ inl same ↦ inl (is ∙ same) | inr since ↦ inr since ]
+  clean_hears shape w clean.LoadLevel word sound knows owes head is = tt
+  clean_hears shape w (clean.Pass s) word sound knows owes head is = tt
+  clean_hears shape w clean.UnlockHead word sound knows owes head is = tt
+  clean_hears shape w (clean.Grace which s) word sound knows owes head is = tt
+  clean_hears shape w (clean.Free which s) word sound knows owes head is = tt
+  clean_hears shape w clean.GiveResizeLock word sound knows owes head is = tt
+
+  poll_hears : (caller : Caller) (w : Work) (a : Option Answer) (word : ℕ) → IsSoundWork caller.shape w → IfSome (work_left w a) (KnowsWork m Now' f i) →
+      ((row bucket : ℕ) → Now'.now.lock row bucket ≡ Some i → locked_in_work (work_left w a) ≡ Some (row, bucket)) → WorkHeaded t m i load log w a →
+      IsFound m (poll_plan (polling caller (w, a))) word →
+      PollHears t Now' f i load log w a word
+  poll_hears caller (work.Clean c) None word sound knows owes head is = clean_hears caller.shape c.along c.stage word sound knows.1 owes head is
+  poll_hears caller (work.Clean c) (Some a) word sound knows owes head is = tt
+  poll_hears caller (work.Resize r) None word sound knows owes head is = absurd knows
+  poll_hears caller (work.Resize r) (Some a) word sound knows owes head is = tt
+
+  part_hears : (passed : List ℕ) (mach : Machine) (word : ℕ) → IsTable t m Now' f → IsOfSeat t Now'.now i mach → KnowsMachine m Now' f i load passed mach → Owes Now' i (doing.Running mach) →
+      Headed t m i load log mach → IsFound m (plan_part mach) word → Hears t Now' f i load log mach word
+  part_hears passed (machine.Call c w g) word table of knows owes head is = call_hears t m f i load passed log table c.asked c.along of.seed of.kind c.stage word knows.0.0 head is
+  part_hears passed (machine.Begin b) word table of knows owes head is = begin_hears t m f i load passed log table b owes
+  part_hears passed (machine.Poll p) word table of knows owes head is = poll_hears p.caller p.work p.answer word of.sound.work knows.1 owes.locked head is
+  part_hears passed (machine.Sweep s) word table of knows owes head is = tt
+
+  -- what a machine knows as its step finds a word
+  pub hears : (passed : List ℕ) (mach : Machine) (s : Step) → IsTable t m Now' f → IsOfSeat t Now'.now i mach → KnowsMachine m Now' f i load passed mach → Owes Now' i (doing.Running mach) →
+      Headed t m i load log mach → plan_of mach ≡ plan.Step s → Hears t Now' f i load log mach (found s m)
+  hears passed mach s table of knows owes head is =
+      part_hears passed mach (found s m) table of knows owes head (subst (λ p. IsFound m p (found s m)) (sym is ∙ plan_is mach) refl)

@@ -1,0 +1,160 @@
+-- What a call has found out of its window so far, and why it answers as it does.
+use Rattle.std.specs.Prelude.{◌≡◌, ◌≢◌, ℕ, ◌+◌, ◌*◌, ◌/◌, ◌^◌, ◌<◌, ◌≤◌, ◌⊎◌, List, [], length, Option, Some, None}
+use Rattle.std.specs.List.{filter}
+use Rattle.intern_log.specs.declared.event.Event.{Event}
+use Rattle.intern_log.specs.declared.event.What.{What}
+use Rattle.intern_log.specs.CauseEvents.{IsCreateUnlinkOrLockOn}
+use Rattle.intern_log.specs.Now.{Now, OpenSection, owner_of, now_of}
+use Rattle.intern_log.specs.Own.{is_visible}
+use Rattle.atomic_step.specs.declared.answer.Answer.{Answer}
+use Rattle.atomic_step.specs.declared.answer.Answer.TheVariants as answer
+use Rattle.atomic_step.specs.declared.plan.Plan.{Plan}
+use Rattle.atomic_step.specs.declared.plan.Plan.TheVariants as plan
+use Rattle.call_machine.specs.declared.begin.BeginStage.{BeginStage}
+use Rattle.call_machine.specs.declared.begin.BeginStage.TheVariants as begin
+use Rattle.call_machine.specs.declared.begin.Left.{Left}
+use Rattle.call_machine.specs.declared.begin.Left.TheVariants as left
+use Rattle.call_machine.specs.declared.clean.CleanAlong.{CleanAlong}
+use Rattle.call_machine.specs.declared.clean.CleanStage.{CleanStage}
+use Rattle.call_machine.specs.declared.clean.CleanStage.TheVariants as clean
+use Rattle.call_machine.specs.declared.lock.LockStage.TheVariants as lock
+use Rattle.call_machine.specs.declared.sweep.SweepStage.{SweepStage}
+use Rattle.call_machine.specs.declared.sweep.SweepStage.TheVariants as sweep
+use Rattle.cht_core.specs.declared.table.Table.{Table}
+use Rattle.call_machine.specs.declared.work.Work.{Work}
+use Rattle.call_machine.specs.declared.work.Work.TheVariants as work
+use Rattle.cht_core.specs.Flow.{Flow, IsUsed}
+use Rattle.cht_core.specs.Past.{Past}
+use Rattle.cht_core.specs.Windows.{Somewhere, Another, AnotherSince, whats_by}
+use Rattle.cht_core.specs.View.{load_after}
+use Rattle.cht_core.specs.WordSays.{WordSays}
+
+-- what a log of a table says at its end
+abbrev pub now_in : Table → List Event → Now
+now_in t log = now_of t.shape.min_level log
+
+-- what a word says that is found by the next step of a plan
+abbrev pub PlanSays : Table → Past → Flow → Plan → ℕ → Type 0
+PlanSays t p f (plan.Step s) word = WordSays t p f s word
+PlanSays t p f (plan.Answered a) word = Unit {0}
+
+-- the seat has no event that callers see
+abbrev pub IsUnseen : ℕ → List Event → Type 0
+IsUnseen i window = filter is_visible (whats_by i window) ≡ []
+
+-- SPENT, BUSY, PENDING SEATS
+
+-- the counter was this, and is too great for a new work, grace or sweep
+abbrev pub IsSpent : Table → List Event → List Event → ℕ → Type 0
+IsSpent t seen window counter = Somewhere (λ log. counter ≡ t.first_counter + 2 * (now_in t log).graces) seen window × (2 ^ 48 ≤ counter)
+
+-- another seat has the resize lock
+abbrev pub IsBusy : Table → ℕ → List Event → Type 0
+IsBusy t i log = (k : ℕ) × (owner_of (now_in t log).resizing ≡ Some k) × (k ≢ i)
+
+-- the section of a number is open, and the counter of its Open is below a value
+abbrev pub IsOpenBelow : Table → ℕ → ℕ → List Event → Type 0
+IsOpenBelow t number raised log = (o : OpenSection) × ((now_in t log).section number ≡ Some o) × (o.counter < raised)
+
+-- BEGINNINGS AND SWEEPS
+
+-- why a call that begins a work or a grace, or polls a grace, answers so
+abbrev pub BeginEnds : Table → ℕ → List Event → List Event → Answer → Left → Type 0
+BeginEnds t i seen window (answer.Spent counter) l = IsSpent t seen window counter
+BeginEnds t i seen window answer.Busy l = Somewhere (IsBusy t i) seen window
+BeginEnds t i seen window (answer.PendingSeat number) (left.Grace g) = Somewhere (IsOpenBelow t number g.raised) seen window
+BeginEnds t i seen window (answer.PendingSeat number) _ = ⊥
+BeginEnds t i seen window _ l = Unit {0}
+
+-- the same before it answers: the resize lock is given back with an answer that needs no cause here
+abbrev pub IsOfLevel : Answer → Type 0
+IsOfLevel (answer.AtMaximum level) = Unit {0}
+IsOfLevel (answer.AtMinimum level) = Unit {0}
+IsOfLevel _ = ⊥
+
+abbrev pub BeginCaused : Table → ℕ → List Event → List Event → BeginStage → Type 0
+BeginCaused t i seen window (begin.Answered a l) = BeginEnds t i seen window a l
+BeginCaused t i seen window (begin.GiveResizeLock a) = IsOfLevel a
+BeginCaused t i seen window _ = Unit {0}
+
+-- what the seat knows of itself as it finds a word: it has not the resize lock where it goes for it
+abbrev pub BeginHears : Past → ℕ → BeginStage → Type 0
+BeginHears p i (begin.TakeResizeLock work) = ¬ (owner_of p.now.resizing ≡ Some i)
+BeginHears p i _ = Unit {0}
+
+-- why a sweep answers so
+abbrev pub SweepCaused : Table → List Event → List Event → SweepStage → Type 0
+SweepCaused t seen window (sweep.Answered (answer.Spent counter)) = IsSpent t seen window counter
+SweepCaused t seen window _ = Unit {0}
+
+-- HEADS
+
+-- another seat has the bucket locked
+abbrev pub IsLockedByOther : Table → ℕ → ℕ → ℕ → List Event → Type 0
+IsLockedByOther t i row bucket log = (k : ℕ) × ((now_in t log).lock row bucket ≡ Some k) × (k ≢ i)
+
+-- the event is a Create, an Unlink or a Lock on the bucket
+abbrev pub IsOnBucket : Table → ℕ → ℕ → List Event → What → Type 0
+IsOnBucket t row bucket log e = IsCreateUnlinkOrLockOn (now_in t log) row bucket e
+
+-- the word of a head is still the one that was loaded at a place, or since then another seat had an event on the bucket
+abbrev pub HeadSays : Table → ℕ → ℕ → ℕ → ℕ → ℕ → List Event → ℕ → Type 0
+HeadSays t i row bucket load head log word = (word ≡ head) ⊎ AnotherSince i (IsOnBucket t row bucket) load log
+
+-- the place of the last load of a head, after the next step of a plan
+abbrev pub loaded_at : Plan → ℕ → ℕ → ℕ
+loaded_at (plan.Step s) now load = load_after s now load
+loaded_at (plan.Answered a) now load = load
+
+-- POLLS OF A CLEAN
+
+-- why a poll of a clean answers so: the section is open with a counter below the raised one, or that is too great for a further grace;
+-- the bucket is locked by another seat, or had an event of another seat, or the poll has made its full passes over it
+abbrev pub CleanEnds : Table → ℕ → List Event → List Event → CleanAlong → Answer → Type 0
+CleanEnds t i seen window w (answer.PendingSeat number) = Somewhere (IsOpenBelow t number w.grace.raised) seen window ⊎ ((number ≡ 0) × (2 ^ 63 ≤ w.grace.raised))
+CleanEnds t i seen window w (answer.PendingBucket row bucket) =
+    Somewhere (IsLockedByOther t i row bucket) seen window ⊎ Another i (IsOnBucket t row bucket) seen window ⊎ (t.shape.slots / 256 + 1 ≤ w.full_passes)
+CleanEnds t i seen window w _ = Unit {0}
+
+abbrev pub PollEnds : Table → ℕ → List Event → List Event → Work → Answer → Type 0
+PollEnds t i seen window (work.Clean c) a = CleanEnds t i seen window c.along a
+PollEnds t i seen window (work.Resize r) a = ⊥
+
+-- before it answers it has loaded the head that it locks within its window
+abbrev pub CleanCaused : Table → ℕ → List Event → List Event → ℕ → CleanAlong → CleanStage → Option Answer → Type 0
+CleanCaused t i seen window load w s (Some a) = CleanEnds t i seen window w a
+CleanCaused t i seen window load w (clean.Lock (lock.LockHead head)) None = length seen ≤ load
+CleanCaused t i seen window load w _ None = Unit {0}
+
+-- the works of a table of one level are cleans
+abbrev pub PollCaused : Table → ℕ → List Event → List Event → ℕ → Work → Option Answer → Type 0
+PollCaused t i seen window load (work.Clean c) a = CleanCaused t i seen window load c.along c.stage a
+PollCaused t i seen window load (work.Resize r) a = ⊥
+
+-- what the seat knows as it finds a word: it has not locked the bucket that it is about to lock, to which callers come
+abbrev pub CleanHears : Table → Past → Flow → ℕ → ℕ → List Event → CleanAlong → CleanStage → ℕ → Type 0
+CleanHears t p f i load log w (clean.Lock lock.LoadHead) word = IsUsed p.now f w.cleaning.row w.cleaning.bucket × ¬ (p.now.lock w.cleaning.row w.cleaning.bucket ≡ Some i)
+CleanHears t p f i load log w (clean.Lock (lock.LockHead head)) word = HeadSays t i w.cleaning.row w.cleaning.bucket load head log word
+CleanHears t p f i load log w _ word = Unit {0}
+
+abbrev pub PollHears : Table → Past → Flow → ℕ → ℕ → List Event → Work → Option Answer → ℕ → Type 0
+PollHears t p f i load log (work.Clean c) None word = CleanHears t p f i load log c.along c.stage word
+PollHears t p f i load log _ _ word = Unit {0}
+
+-- between its polls a work is not about to exchange a head
+abbrev pub IsRestingAt : CleanStage → Type 0
+IsRestingAt (clean.Lock (lock.LockHead head)) = ⊥
+IsRestingAt _ = Unit {0}
+
+abbrev pub IsResting : Work → Type 0
+IsResting (work.Clean c) = IsRestingAt c.stage
+IsResting (work.Resize r) = ⊥
+
+-- a poll that has answered rests
+abbrev pub RestsAt : CleanStage → Option Answer → Type 0
+RestsAt s None = Unit {0}
+RestsAt s (Some a) = IsRestingAt s
+
+abbrev pub Rests : Work → Option Answer → Type 0
+Rests (work.Clean c) a = RestsAt c.stage a
+Rests (work.Resize r) a = Unit {0}
