@@ -109,10 +109,10 @@ count_none Permanent h word = refl
 count_none Kill h word = either_way DrawsNone (is_live h word) _ _ refl refl
 
 -- a row whose step draws nothing, and after which none is drawn
-abbrev IsNoDraw : Row (Along × CallStage) → Type 0
+abbrev pub IsNoDraw : Row (Along × CallStage) → Type 0
 IsNoDraw does = (does.step ≢ step.Draw) × ((word : ℕ) → DrawsNone (does.next word).1)
 
-node_none : (q : Asked) (w : Along) (s : NodeStage) → IsNoDraw (node_row q w s)
+pub node_none : (q : Asked) (w : Along) (s : NodeStage) → IsNoDraw (node_row q w s)
 node_none q w (node.Meta x) = ((λ e. cc), (λ word. refl))
 node_none q w (node.Text x at) = ((λ e. cc), (λ word. refl))
 node_none q w (node.Count x) = ((λ e. cc), (λ word. either_way DrawsNone (holds_of word == 0) _ _ refl (matches_none q w q.kind x word)))
@@ -122,7 +122,7 @@ node_none q w (node.Take x count) = ((λ e. cc), (λ word. either_way DrawsNone 
 abbrev DrawsNoneAt : Along × CallStage → Type 0
 DrawsNoneAt at = DrawsNone at.1
 
-insert_none : (q : Asked) (w : Along) (s : InsertStage) → IsNoDraw (insert_row q w s)
+pub insert_none : (q : Asked) (w : Along) (s : InsertStage) → IsNoDraw (insert_row q w s)
 insert_none q w (insert.Claim slot tried) = (
   (λ e. cc),
   (λ word. either_way DrawsNoneAt (word == 0) (record w { cursor = next_slot q.shape.slots slot }, stage.Insert (insert.OwnCount slot)) (w, not_claimed q w slot tried) refl
@@ -138,23 +138,23 @@ insert_none q w (insert.Create h) = (
   (λ word. either_way DrawsNoneAt (word == w.walk.head) (record w { kept = None }, leaves_with None (answer.Created h)) _ refl (created_none w q.goal h _)),
 )
 
-leave_none : (q : Asked) (w : Along) (s : LeaveStage) → IsNoDraw (leave_row q w s)
+pub leave_none : (q : Asked) (w : Along) (s : LeaveStage) → IsNoDraw (leave_row q w s)
 leave_none q w (leave.UndoCount h after) = ((λ e. cc), (λ word. refl))
 leave_none q w (leave.UndoClaim slot after) = ((λ e. cc), (λ word. refl))
 leave_none q w (leave.Close after) = ((λ e. cc), (λ word. left_none w after))
 
-handle_none : (q : Asked) (w : Along) (s : HandleStage) → IsNoDraw (handle_row q w s)
+pub handle_none : (q : Asked) (w : Along) (s : HandleStage) → IsNoDraw (handle_row q w s)
 handle_none q w (handle.Count change) = ((λ e. cc), (λ word. count_none change q.handle word))
 handle_none q w (handle.Exchange change count) = ((λ e. cc), (λ word. refl))
 
-read_row_none : (q : Asked) (w : Along) (s : ReadStage) → IsNoDraw (read_row q w s)
+pub read_row_none : (q : Asked) (w : Along) (s : ReadStage) → IsNoDraw (read_row q w s)
 read_row_none q w (read.Enter enter.LoadCounter) = ((λ e. cc), (λ word. refl))
 read_row_none q w (read.Enter (enter.OpenSection counter)) = ((λ e. cc), (λ word. refl))
 read_row_none q w read.Count = ((λ e. cc), (λ word. either_way DrawsNone (is_live q.handle word) _ _ refl (leaves_none None answer.Stale)))
 read_row_none q w read.Meta = ((λ e. cc), (λ word. reads_none q.kind 0 _))
 read_row_none q w (read.Text at len) = ((λ e. cc), (λ word. reads_none q.kind (at + 1) len))
 
-find_row_none : (q : Asked) (w : Along) (s : FindStage) → IsNoDraw (map_row (found_by q w) (find_row q.number (hash_of q.seed q.text) w.walk s))
+pub find_row_none : (q : Asked) (w : Along) (s : FindStage) → IsNoDraw (map_row (found_by q w) (find_row q.number (hash_of q.seed q.text) w.walk s))
 find_row_none q w s = (
   (find_plain q.number (hash_of q.seed q.text) w.walk s).1,
   λ word. let came = (find_row q.number (hash_of q.seed q.text) w.walk s).next word in finds_none q w came.0.head came.1,

@@ -34,7 +34,6 @@ use Rattle.cht_core.proofs.InsertStages.{insert_call_knows}
 use Rattle.cht_core.proofs.LeaveStages.{leave_serves, draw_serves}
 use Rattle.cht_core.proofs.NodeStages.{node_serves}
 use Rattle.cht_core.proofs.ReadStages.{read_backs, read_next}
-use Rattle.cht_core.proofs.TableSteps.{table_keeps}
 use Rattle.cht_core.proofs.Ties.{IsAskedOf}
 use Rattle.cht_core.proofs.Turns.{IfMakes}
 
@@ -46,18 +45,18 @@ module _ (t : Table) (m : Memory) (p : Past) (f : Flow) (table : IsTable t m p f
       let backs : Backs t m p f i q.text row.step = insert_backs t m p f i load passed q w asked room s h.0 in
       record {
         backs = backs;
-        leads = λ m' made. insert_call_knows t m m' p f i load passed q w s table.tidy h has made (table_keeps row.step t m m' p f i q.text table inside sound backs made);
+        leads = λ m' made went. insert_call_knows t m m' p f i load passed q w s table.tidy h has made went;
       }
 
   -- a call by handle, and the reading of a text
   handle_serves : (s : HandleStage) → KnowsCall m p f i load passed q w (stage.Handle s) → Serves t m p f i load passed q (handle_row q w s)
   handle_serves (handle.Count change) h = record {
     backs = handle_backs t m p f i q w (handle.Count change) asked h.0;
-    leads = λ m' made. (handle_next t m m' p f i load passed q w table asked inside (handle.Count change) h.0, h.1);
+    leads = λ m' made went. (handle_next t m m' p f i load passed q w table asked inside (handle.Count change) h.0, h.1);
   }
   handle_serves (handle.Exchange change count) h = record {
     backs = handle_backs t m p f i q w (handle.Exchange change count) asked h.0;
-    leads = λ m' made. (handle_next t m m' p f i load passed q w table asked inside (handle.Exchange change count) h.0, h.1);
+    leads = λ m' made went. (handle_next t m m' p f i load passed q w table asked inside (handle.Exchange change count) h.0, h.1);
   }
 
   read_knows : w.kept ≡ None → (s : ReadStage) (m' : Memory) → IsMade (read_row q w s).step m m' → KnowsCall m p f i load passed q w (stage.Read s)
@@ -67,12 +66,12 @@ module _ (t : Table) (m : Memory) (p : Past) (f : Flow) (table : IsTable t m p f
 
   read_serves : w.kept ≡ None → (s : ReadStage) → KnowsCall m p f i load passed q w (stage.Read s) → Serves t m p f i load passed q (read_row q w s)
   read_serves kept (read.Enter enter.LoadCounter) h =
-      record { backs = read_backs t m p f i q w q.kind (read.Enter enter.LoadCounter) h.0; leads = λ m' made. (read_knows kept (read.Enter enter.LoadCounter) m' made h, h.1) }
+      record { backs = read_backs t m p f i q w q.kind (read.Enter enter.LoadCounter) h.0; leads = λ m' made went. (read_knows kept (read.Enter enter.LoadCounter) m' made h, h.1) }
   read_serves kept (read.Enter (enter.OpenSection c)) h =
-      record { backs = read_backs t m p f i q w q.kind (read.Enter (enter.OpenSection c)) h.0; leads = λ m' made. (read_next t m m' p f i load [] q w table asked inside kept (read.Enter (enter.OpenSection c)) made h.0, h.1) }
-  read_serves kept read.Count h = record { backs = read_backs t m p f i q w q.kind read.Count h.0; leads = λ m' made. (read_knows kept read.Count m' made h, h.1) }
-  read_serves kept read.Meta h = record { backs = read_backs t m p f i q w q.kind read.Meta h.0; leads = λ m' made. (read_knows kept read.Meta m' made h, h.1) }
-  read_serves kept (read.Text at len) h = record { backs = read_backs t m p f i q w q.kind (read.Text at len) h.0; leads = λ m' made. (read_knows kept (read.Text at len) m' made h, h.1) }
+      record { backs = read_backs t m p f i q w q.kind (read.Enter (enter.OpenSection c)) h.0; leads = λ m' made went. (read_next t m m' p f i load [] q w table asked inside kept (read.Enter (enter.OpenSection c)) made h.0, h.1) }
+  read_serves kept read.Count h = record { backs = read_backs t m p f i q w q.kind read.Count h.0; leads = λ m' made went. (read_knows kept read.Count m' made h, h.1) }
+  read_serves kept read.Meta h = record { backs = read_backs t m p f i q w q.kind read.Meta h.0; leads = λ m' made went. (read_knows kept read.Meta m' made h, h.1) }
+  read_serves kept (read.Text at len) h = record { backs = read_backs t m p f i q w q.kind (read.Text at len) h.0; leads = λ m' made went. (read_knows kept (read.Text at len) m' made h, h.1) }
 
   -- the row of each stage that makes one
   pub call_serves : IsSoundAsked q → (s : CallStage) → m place.Draws + 1 < 2 ^ 64 → IsSoundPlan t.shape i (plan_at q w s) → HasSoundStage q w s → KnowsCall m p f i load passed q w s

@@ -6,6 +6,7 @@ use Rattle.table_shape.specs.Shape.{IsSound}
 use Rattle.intern_log.specs.declared.event.Event.{Event}
 use Rattle.intern_log.specs.declared.event.Handle.{Handle}
 use Rattle.intern_log.specs.declared.event.What.{What}
+use Rattle.intern_log.specs.Now.{owner_of}
 use Rattle.atomic_step.specs.declared.answer.Answer.{Answer}
 use Rattle.atomic_step.specs.declared.answer.Answer.TheVariants as answer
 use Rattle.atomic_step.specs.declared.count.Change.{Change}
@@ -44,7 +45,7 @@ use Rattle.call_machine.specs.SoundMachine.{IsSoundOwn, MayStart, IsSoundMachine
 use Rattle.call_machine.proofs.Machines.{plan_part, got_part, plan_is, got_is, event_is, fits_part}
 use Rattle.cht_core.specs.declared.table.Table.{Table}
 use Rattle.cht_core.specs.Caused.{way_of, Caused, Hears, MayCause, SweepEnds, Cause}
-use Rattle.cht_core.specs.Causes.{now_in, PlanSays, loaded_at, IsResting, BeginCaused, PollEnds, CleanEnds, PollCaused, SweepCaused}
+use Rattle.cht_core.specs.Causes.{now_in, IsUnseen, PlanSays, loaded_at, IsResting, BeginCaused, PollEnds, CleanEnds, PollCaused, SweepCaused}
 use Rattle.cht_core.specs.CauseCalls.{Way, Walks, Changes, Splits, WasMade, CallCaused}
 use Rattle.cht_core.specs.Flow.{Flow}
 use Rattle.cht_core.specs.Invariant.{events_of}
@@ -52,19 +53,19 @@ use Rattle.cht_core.specs.Past.{Past, past_of}
 use Rattle.cht_core.specs.Tidy.{IsTidy}
 use Rattle.cht_core.specs.Windows.{IsTold, whats_by}
 use Rattle.cht_core.proofs.CauseCallWaits.{call_on}
+use Rattle.cht_core.proofs.CauseCleans.{poll_begins, poll_found}
 use Rattle.cht_core.proofs.CauseOwns.{owns_begins, owns_waits, owns_steps, owns_answered, answered_at, unseen_waits, unseen_steps}
 use Rattle.cht_core.proofs.CauseSteps.{begin_found}
 use Rattle.cht_core.proofs.CauseSweeps.{sweep_found}
 use Rattle.cht_core.proofs.CauseTurns.{call_found}
 use Rattle.cht_core.proofs.CauseWaits.{begin_on, poll_on, sweep_on}
-use Rattle.cht_core.proofs.CauseWorks.{poll_begins, poll_found}
 
 -- events of others change nothing of it
 pub caused_waits : (t : Table) (i : ℕ) (way : Way) (seen window more : List Event) (load : ℕ) (m : Machine) → whats_by i more ≡ [] → Caused t i way seen window load m →
     Caused t i way seen (window ++ more) load m
 caused_waits t i way seen window more load (machine.Call c w g) none h = (owns_waits i window more c none h.0, call_on t i seen window more way load c.asked c.along c.stage h.1)
 caused_waits t i way seen window more load (machine.Begin b) none h = (unseen_waits i window more none h.0, begin_on t i seen window more b.stage h.1)
-caused_waits t i way seen window more load (machine.Poll p) none h = (unseen_waits i window more none h.0, poll_on t i seen window more load p.work p.answer h.1)
+caused_waits t i way seen window more load (machine.Poll p) none h = (unseen_waits i window more none h.0, poll_on t i seen window more load p.work p.answer none h.1)
 caused_waits t i way seen window more load (machine.Sweep s) none h = (unseen_waits i window more none h.0, sweep_on t i seen window more s.stage h.1)
 
 module _ (t : Table) (i : ℕ) (way : Way) (seen window : List Event) (load : ℕ) (f : Flow) where
@@ -93,11 +94,11 @@ module _ (t : Table) (i : ℕ) (way : Way) (seen window : List Event) (load : �
     begin_on t i seen window (events_of i (event_of (machine.Begin b) word)) _
         (begin_found t i seen window f b.caller b.stage word h.1 says hears),
   )
-  part_steps (machine.Poll p) word shape sound fits told tidy h says hears = (
-    unseen_steps i window (machine.Poll p) word tt h.0,
-    poll_on t i seen window (events_of i (event_of (machine.Poll p) word)) (loaded_at (plan_part (machine.Poll p)) Now'.now.place load) _ _
-        (poll_found t i seen window load f p.caller p.work p.answer word shape h.1 says hears),
-  )
+  part_steps (machine.Poll p) word shape sound fits told tidy h says hears =
+      subst (λ e. After (plan_part (machine.Poll p)) e (got_part (machine.Poll p) word)) (sym (event_is (machine.Poll p) word)) (
+        subst (λ e. IsUnseen i (window ++ events_of i e)) (event_is (machine.Poll p) word) (unseen_steps i window (machine.Poll p) word tt h.0),
+        poll_found t i seen window load f told h.0 p.caller p.work p.answer word shape sound.work h.1 says hears,
+      )
   part_steps (machine.Sweep s) word shape sound fits told tidy h says hears = (
     unseen_steps i window (machine.Sweep s) word tt h.0,
     sweep_on t i seen window (events_of i (event_of (machine.Sweep s) word)) _ (sweep_found t i seen window f s.asked s.along s.stage word h.1 says),
@@ -157,7 +158,7 @@ cause_answered t i way seen window load m a sound is h = part m sound (sym (plan
 
 -- THE BEGINNING
 
-first_slot : (shape : Shape) → IsSound shape → IsHandle shape calls.no_handle
+pub first_slot : (shape : Shape) → IsSound shape → IsHandle shape calls.no_handle
 first_slot shape sound = let some = sound.slots in (omega (arith, some), omega arith)
 
 module _ (t : Table) (i : ℕ) (seen : List Event) (load : ℕ) (caller : Caller) (own : Own) (shape : caller.shape ≡ t.shape) (sound : IsSoundCaller caller) where
@@ -190,11 +191,11 @@ module _ (t : Table) (i : ℕ) (seen : List Event) (load : ℕ) (caller : Caller
   grace_begins None = (refl, tt)
   grace_begins (Some g) = (refl, tt)
 
-  work_begins : (w : Option Work) → IfSome w IsResting → Caused t i Splits seen [] load (begun_work_poll caller w)
+  work_begins : (w : Option Work) → IfSome w (λ w. IsResting w × (owner_of (now_in t seen).resizing ≡ Some i)) → Caused t i Splits seen [] load (begun_work_poll caller w)
   work_begins None rests = (refl, tt)
-  work_begins (Some w) rests = (refl, poll_begins t i seen load w rests)
+  work_begins (Some w) rests = (refl, poll_begins t i seen load w rests.0 rests.1)
 
-  starts_caused : (c : Call) → MayStart caller.kind caller.shape own c → MayCause t seen own c → Caused t i (way_of c) seen [] load (starts caller own c)
+  starts_caused : (c : Call) → MayStart caller.kind caller.shape own c → MayCause t i seen own c → Caused t i (way_of c) seen [] load (starts caller own c)
   starts_caused call.Split may causes = ((owns_begins i caller goal.Lookup [] change.Drop calls.no_handle sound (first_slot caller.shape sound.shape)).0, refl)
   starts_caused (call.Intern text) may causes = walk_begins goal.Intern text.now tt
   starts_caused (call.Lookup text) may causes = walk_begins goal.Lookup text.now causes
@@ -213,7 +214,7 @@ module _ (t : Table) (i : ℕ) (seen : List Event) (load : ℕ) (caller : Caller
 
 -- each call at its first stage has found out nothing yet
 pub caused_begins : (t : Table) (i : ℕ) (seen : List Event) (load seed : ℕ) (own : Own) (c : Call) → IsSound t.shape → seed < 2 ^ 32 → IsSoundOwn t.shape own →
-    MayStart t.kind t.shape own c → MayCause t seen own c →
+    MayStart t.kind t.shape own c → MayCause t i seen own c →
     Caused t i (way_of c) seen [] load (started t.kind t.shape seed own c)
 caused_begins t i seen load seed own c shape small of may causes =
     starts_caused t i seen load (caller_of t.kind t.shape seed own) own refl (record { shape = shape; seed = small; number = of.0.0; cursor = of.0.1 }) c may causes

@@ -1,8 +1,9 @@
 -- What any machine knows as it finds a word, from what the words show and what its seat knows and owes.
-use Rattle.std.proofs.Common.{◌≡◌, ℕ, List, Option, Some, None, refl, sym, subst, ◌∙◌, inl, inr}
+use Rattle.std.proofs.Common.{◌≡◌, ℕ, List, Option, Some, None, refl, sym, ap, subst, ◌∙◌, inl, inr}
 use Rattle.std.specs.Prelude.{IfSome}
 use Rattle.table_shape.specs.declared.shape.Shape.{Shape}
 use Rattle.intern_log.specs.declared.event.Event.{Event}
+use Rattle.intern_log.specs.SlotBuckets.{phase_bucket}
 use Rattle.atomic_step.specs.declared.answer.Answer.{Answer}
 use Rattle.atomic_step.specs.declared.plan.Plan.TheVariants as plan
 use Rattle.atomic_step.specs.declared.step.Step.{Step}
@@ -13,6 +14,7 @@ use Rattle.call_machine.specs.declared.clean.CleanStage.TheVariants as clean
 use Rattle.call_machine.specs.declared.lock.LockStage.TheVariants as lock
 use Rattle.call_machine.specs.declared.machine.Machine.{Machine}
 use Rattle.call_machine.specs.declared.machine.Machine.TheVariants as machine
+use Rattle.call_machine.specs.declared.pass.PassStage.TheVariants as pass
 use Rattle.call_machine.specs.declared.work.Work.{Work}
 use Rattle.call_machine.specs.declared.work.Work.TheVariants as work
 use Rattle.call_machine.specs.Clean.{clean_row}
@@ -40,34 +42,38 @@ module _ (t : Table) (m : Memory) (f : Flow) (i load : ℕ) (log : List Event) w
   abbrev Now' : Past
   Now' = past_of t.shape.min_level log
 
-  clean_hears : (shape : Shape) (w : CleanAlong) (s : CleanStage) (word : ℕ) → IsSoundClean shape w s → KnowsCleaning m Now' f i w s →
+  clean_hears : IsTable t m Now' f → (shape : Shape) (w : CleanAlong) (s : CleanStage) (word : ℕ) → IsSoundClean shape w s → KnowsCleaning m Now' f i w s →
       ((row bucket : ℕ) → Now'.now.lock row bucket ≡ Some i → cleans.locked_at w.cleaning s ≡ Some (row, bucket)) → CleanHeaded t m i load log w s None →
       IsFound m (plan.Step (clean_row shape w s).step) word →
       CleanHears t Now' f i load log w s word
-  clean_hears shape w (clean.Lock lock.LoadHead) word sound knows owes head is =
+  clean_hears table shape w (clean.Lock lock.LoadHead) word sound knows owes head is =
       ((knows.0, sound.cleaning.bucket), λ mine. (let clash : None ≡ Some (w.cleaning.row, w.cleaning.bucket) = owes w.cleaning.row w.cleaning.bucket mine in cc))
-  clean_hears shape w (clean.Lock (lock.LockHead h)) word sound knows owes head is = elim (head.says (sound.step 0).1) [ inl same ↦ inl (is ∙ same) | inr since ↦ inr since ]
-  clean_hears shape w clean.LoadLevel word sound knows owes head is = tt
-  clean_hears shape w (clean.Pass s) word sound knows owes head is = tt
-  clean_hears shape w clean.UnlockHead word sound knows owes head is = tt
-  clean_hears shape w (clean.Grace which s) word sound knows owes head is = tt
-  clean_hears shape w (clean.Free which s) word sound knows owes head is = tt
-  clean_hears shape w clean.GiveResizeLock word sound knows owes head is = tt
+  clean_hears table shape w (clean.Lock (lock.LockHead h)) word sound knows owes head is = elim (head.says (sound.step 0).1) [ inl same ↦ inl (is ∙ same) | inr since ↦ inr since ]
+  clean_hears table shape w clean.LoadLevel word sound knows owes head is = tt
+  clean_hears table shape w (clean.Pass (pass.Unlink s g next)) word sound knows owes head is =
+      let (text, h, at, linked, home) = table.chains.on_linked w.cleaning.row w.cleaning.bucket s knows.1.0.0.used knows.1.0.1 in
+      ap (phase_bucket Now'.now w.cleaning.row) linked ∙ ap (λ b. Some b) home
+  clean_hears table shape w (clean.Pass (pass.LoadCount s)) word sound knows owes head is = tt
+  clean_hears table shape w (clean.Pass (pass.LoadLink s dead)) word sound knows owes head is = tt
+  clean_hears table shape w clean.UnlockHead word sound knows owes head is = tt
+  clean_hears table shape w (clean.Grace which s) word sound knows owes head is = tt
+  clean_hears table shape w (clean.Free which s) word sound knows owes head is = tt
+  clean_hears table shape w clean.GiveResizeLock word sound knows owes head is = tt
 
-  poll_hears : (caller : Caller) (w : Work) (a : Option Answer) (word : ℕ) → IsSoundWork caller.shape w → IfSome (work_left w a) (KnowsWork m Now' f i) →
+  poll_hears : IsTable t m Now' f → (caller : Caller) (w : Work) (a : Option Answer) (word : ℕ) → IsSoundWork caller.shape w → IfSome (work_left w a) (KnowsWork m Now' f i) →
       ((row bucket : ℕ) → Now'.now.lock row bucket ≡ Some i → locked_in_work (work_left w a) ≡ Some (row, bucket)) → WorkHeaded t m i load log w a →
       IsFound m (poll_plan (polling caller (w, a))) word →
       PollHears t Now' f i load log w a word
-  poll_hears caller (work.Clean c) None word sound knows owes head is = clean_hears caller.shape c.along c.stage word sound knows.1 owes head is
-  poll_hears caller (work.Clean c) (Some a) word sound knows owes head is = tt
-  poll_hears caller (work.Resize r) None word sound knows owes head is = absurd knows
-  poll_hears caller (work.Resize r) (Some a) word sound knows owes head is = tt
+  poll_hears table caller (work.Clean c) None word sound knows owes head is = clean_hears table caller.shape c.along c.stage word sound knows.1 owes head is
+  poll_hears table caller (work.Clean c) (Some a) word sound knows owes head is = tt
+  poll_hears table caller (work.Resize r) None word sound knows owes head is = absurd knows
+  poll_hears table caller (work.Resize r) (Some a) word sound knows owes head is = tt
 
   part_hears : (passed : List ℕ) (mach : Machine) (word : ℕ) → IsTable t m Now' f → IsOfSeat t Now'.now i mach → KnowsMachine m Now' f i load passed mach → Owes Now' i (doing.Running mach) →
       Headed t m i load log mach → IsFound m (plan_part mach) word → Hears t Now' f i load log mach word
   part_hears passed (machine.Call c w g) word table of knows owes head is = call_hears t m f i load passed log table c.asked c.along of.seed of.kind c.stage word knows.0.0 head is
   part_hears passed (machine.Begin b) word table of knows owes head is = begin_hears t m f i load passed log table b owes
-  part_hears passed (machine.Poll p) word table of knows owes head is = poll_hears p.caller p.work p.answer word of.sound.work knows.1 owes.locked head is
+  part_hears passed (machine.Poll p) word table of knows owes head is = poll_hears table p.caller p.work p.answer word of.sound.work knows.1 owes.locked head is
   part_hears passed (machine.Sweep s) word table of knows owes head is = tt
 
   -- what a machine knows as its step finds a word

@@ -1,6 +1,6 @@
 -- Where a poll of a clean has answered its work rests; a call begins with nothing known of a head; and a text that is too long has no entry.
 use Rattle.std.proofs.Common.{◌≡◌, ℕ, ◌+◌, ◌*◌, ◌^◌, ◌/◌, ◌≤◌, ◌==◌, min, nat_lt, true, if◌then◌else◌, List, [], ◌∷◌, length, Option, Some, None}
-use Rattle.std.proofs.Common.{refl, arith}
+use Rattle.std.proofs.Common.{refl, subst, arith}
 use Rattle.std.specs.Prelude.{IfSome}
 use Rattle.std.proofs.lemmas.Bool.Decides.{nat_tests}
 use Rattle.marked_word.specs.Head.{is_locked, first_of}
@@ -12,6 +12,7 @@ use Rattle.intern_log.specs.TextMap.{entry_of}
 use Rattle.atomic_step.specs.declared.answer.Answer.{Answer}
 use Rattle.atomic_step.specs.Turn.{next_in}
 use Rattle.atomic_step.proofs.Choices.{either_way}
+use Rattle.call_machine.specs.declared.begin.Left.TheVariants as left
 use Rattle.call_machine.specs.declared.call.Call.{Call}
 use Rattle.call_machine.specs.declared.call.Call.TheVariants as call
 use Rattle.call_machine.specs.declared.caller.Caller.{Caller}
@@ -39,13 +40,13 @@ use Rattle.call_machine.specs.declared.stage.Goal.TheVariants as goals
 use Rattle.call_machine.specs.declared.work.Work.{Work}
 use Rattle.call_machine.specs.declared.work.Work.TheVariants as work
 use Rattle.call_machine.specs.BeginCall as calls
-use Rattle.call_machine.specs.Clean.{Went, goes, waits_at, raises, locks_on, counts_pass, ends, next_bucket, graces_on, frees_on, clean_row, resumed}
+use Rattle.call_machine.specs.Clean.{begun_clean, Went, goes, waits_at, raises, locks_on, counts_pass, ends, next_bucket, graces_on, frees_on, clean_row, resumed}
 use Rattle.call_machine.specs.Grace.{held_back, counts_grace}
 use Rattle.call_machine.specs.Machine.{caller_of, starts, started, begun_grace_poll, begun_work_poll}
 use Rattle.call_machine.specs.Pass.{free_row}
 use Rattle.call_machine.specs.Poll.{poll_turn}
 use Rattle.call_machine.specs.Sought.{is_too_long}
-use Rattle.call_machine.specs.Work.{resumes}
+use Rattle.call_machine.specs.Work.{begun_work, resumes}
 use Rattle.cht_core.specs.declared.table.Table.{Table}
 use Rattle.cht_core.specs.Causes.{IsRestingAt, IsResting, RestsAt, Rests}
 use Rattle.cht_core.specs.Flow.{Flow}
@@ -118,6 +119,10 @@ poll_rests caller (work.Clean c) (Some a) word h = h
 poll_rests caller (work.Resize r) None word h = tt
 poll_rests caller (work.Resize r) (Some a) word h = tt
 
+-- a clean that was begun rests
+pub begun_rests : (shape : Shape) (w : Work) → begun_work shape left.Clean ≡ Some w → IsResting w
+begun_rests shape w is = let same : work.Clean (record { along = begun_clean shape.min_level; stage = clean.LoadLevel }) ≡ w = cc in subst IsResting same tt
+
 pub poll_begins_resting : (w : Work) → IsResting w → Rests (resumes w).0 (resumes w).1
 poll_begins_resting (work.Clean c) rests = so c.stage (resumed c.along c.stage) rests
 poll_begins_resting (work.Resize r) rests = tt
@@ -135,8 +140,8 @@ module _ (t : Table) (m : Memory) (i load : ℕ) (log : List Event) where
   clean_begins w clean.LoadLevel a is = tt
   clean_begins w (clean.Lock lock.LoadHead) a is = tt
   clean_begins w (clean.Lock (lock.LockHead head)) a is = absurd is
-  clean_begins w (clean.Pass s) a is = tt
-  clean_begins w clean.UnlockHead a is = tt
+  clean_begins w (clean.Pass s) a is = absurd is
+  clean_begins w clean.UnlockHead a is = absurd is
   clean_begins w (clean.Grace which s) a is = tt
   clean_begins w (clean.Free which s) a is = tt
   clean_begins w clean.GiveResizeLock a is = tt

@@ -1,5 +1,5 @@
 -- What a call has found out of its window stays so as the window grows.
-use Rattle.std.proofs.Common.{◌≡◌, ℕ, ◌+◌, ◌*◌, List, ◌++◌, Option, Some, None, inl, inr}
+use Rattle.std.proofs.Common.{◌≡◌, ℕ, ◌+◌, ◌*◌, List, [], ◌++◌, Option, Some, None, inl, inr}
 use Rattle.intern_log.specs.declared.event.Event.{Event}
 use Rattle.atomic_step.specs.declared.answer.Answer.{Answer}
 use Rattle.atomic_step.specs.declared.answer.Answer.TheVariants as answer
@@ -9,14 +9,14 @@ use Rattle.call_machine.specs.declared.begin.Left.{Left}
 use Rattle.call_machine.specs.declared.begin.Left.TheVariants as left
 use Rattle.call_machine.specs.declared.clean.CleanAlong.{CleanAlong}
 use Rattle.call_machine.specs.declared.clean.CleanStage.{CleanStage}
-use Rattle.call_machine.specs.declared.clean.CleanStage.TheVariants as clean
-use Rattle.call_machine.specs.declared.lock.LockStage.TheVariants as lock
 use Rattle.call_machine.specs.declared.work.Work.{Work}
 use Rattle.call_machine.specs.declared.work.Work.TheVariants as work
 use Rattle.call_machine.specs.declared.sweep.SweepStage.{SweepStage}
 use Rattle.call_machine.specs.declared.sweep.SweepStage.TheVariants as sweep
 use Rattle.cht_core.specs.declared.table.Table.{Table}
 use Rattle.cht_core.specs.Causes.{now_in, IsSpent, IsBusy, IsOpenBelow, BeginEnds, BeginCaused, SweepCaused, IsLockedByOther, IsOnBucket, CleanEnds, CleanCaused, PollCaused}
+use Rattle.cht_core.specs.Windows.{whats_by}
+use Rattle.cht_core.proofs.CausePasses.{keeps_waits, unlinked_on}
 use Rattle.cht_core.proofs.Windows.{somewhere_on, another_on}
 
 module _ (t : Table) (i : ℕ) (seen window more : List Event) where
@@ -41,24 +41,23 @@ module _ (t : Table) (i : ℕ) (seen window more : List Event) where
   sweep_on (sweep.Answered (answer.Spent counter)) h = spent_on counter h
   sweep_on _ h = tt
 
-  clean_ends_on : (w : CleanAlong) (a : Answer) → CleanEnds t i seen window w a → CleanEnds t i seen (window ++ more) w a
+  -- of a poll of a clean that has answered
+  pub clean_ends_on : (w : CleanAlong) (a : Answer) → CleanEnds t i seen window w a → CleanEnds t i seen (window ++ more) w a
   clean_ends_on w (answer.PendingSeat number) h = elim h [
     | inl waits ↦ inl (somewhere_on seen window (IsOpenBelow t number w.grace.raised) more waits)
     | inr great ↦ inr great
   ]
   clean_ends_on w (answer.PendingBucket row bucket) h = elim h [
     | inl locked ↦ inl (somewhere_on seen window (IsLockedByOther t i row bucket) more locked)
-    | inr (inl moved) ↦ inr (inl (another_on seen window i (IsOnBucket t row bucket) more moved))
-    | inr (inr passes) ↦ inr (inr passes)
+    | inr moved ↦ inr (another_on seen window i (IsOnBucket t row bucket) more moved)
   ]
   clean_ends_on w _ h = tt
 
-  clean_on : (load : ℕ) (w : CleanAlong) (s : CleanStage) (a : Option Answer) → CleanCaused t i seen window load w s a → CleanCaused t i seen (window ++ more) load w s a
-  clean_on load w s (Some a) h = clean_ends_on w a h
-  clean_on load w (clean.Lock (lock.LockHead head)) None h = h
-  clean_on load w _ None h = tt
+  clean_on : (load : ℕ) (w : CleanAlong) (s : CleanStage) (a : Option Answer) → whats_by i more ≡ [] → CleanCaused t i seen window load w s a → CleanCaused t i seen (window ++ more) load w s a
+  clean_on load w s (Some a) none h = clean_ends_on w a h
+  clean_on load w s None none h = (keeps_waits t i seen window more none h.0, unlinked_on t i seen window w s more h.1, h.2)
 
-  -- of a poll of a work
-  pub poll_on : (load : ℕ) (w : Work) (a : Option Answer) → PollCaused t i seen window load w a → PollCaused t i seen (window ++ more) load w a
-  poll_on load (work.Clean c) a h = clean_on load c.along c.stage a h
-  poll_on load (work.Resize r) a h = absurd h
+  -- of a poll of a work, by events of others
+  pub poll_on : (load : ℕ) (w : Work) (a : Option Answer) → whats_by i more ≡ [] → PollCaused t i seen window load w a → PollCaused t i seen (window ++ more) load w a
+  poll_on load (work.Clean c) a none h = clean_on load c.along c.stage a none h
+  poll_on load (work.Resize r) a none h = absurd h

@@ -60,13 +60,13 @@ module _ (t : Table) (m : Memory) (p : Past) (f : Flow) (table : IsTable t m p f
         → Serves t m p f i load passed q (map_row (found q w) (find_row q.number (hash_of q.seed q.text) w.walk s))
     find_serves passed (find.Enter enter.LoadCounter) h = record {
       backs = tt;
-      leads = λ m' made. subst (λ (now : Memory). KnowsCall now p f i load passed q w (stage.Find (find.Enter (enter.OpenSection (m place.Counter)))))
+      leads = λ m' made went. subst (λ (now : Memory). KnowsCall now p f i load passed q w (stage.Find (find.Enter (enter.OpenSection (m place.Counter)))))
           (sym (after_load step.LoadCounter m m' refl made))
           (((h.0.0, omega arith), h.0.1, h.0.2, h.0.3), h.1);
     }
     find_serves passed (find.Enter (enter.OpenSection counter)) h = record {
       backs = h.0.0;
-      leads = λ m' made. (
+      leads = λ m' made went. (
         (
           (record { place = p.now.place; counter = counter }, with_here p.now.section i (Some (record { place = p.now.place; counter = counter })) i refl),
           kept_stays m p.now m' (past_after p (by i (what.Open counter))).now i q.seed q.text w.kept (record {
@@ -83,12 +83,12 @@ module _ (t : Table) (m : Memory) (p : Past) (f : Flow) (table : IsTable t m p f
     }
     find_serves passed find.LoadLevel h = record {
       backs = tt;
-      leads = λ m' made. subst (λ (now : Memory). KnowsCall now p f i load passed q (record w { walk = turned_to (hash_of q.seed q.text) (m place.Level) w.walk }) (stage.Find find.LoadHead))
+      leads = λ m' made went. subst (λ (now : Memory). KnowsCall now p f i load passed q (record w { walk = turned_to (hash_of q.seed q.text) (m place.Level) w.walk }) (stage.Find find.LoadHead))
           (sym (after_load step.LoadLevel m m' refl made)) (((h.0.0.0, h.0.0.1, table.heads.level, refl), h.0.1, h.0.2, h.0.3), h.1);
     }
     find_serves passed find.LoadHead h = record {
       backs = tt;
-      leads = λ m' made.
+      leads = λ m' made went.
           let word : ℕ = m (place.Head w.walk.row w.walk.bucket) in
           let along : Along = record w { walk = record w.walk { head = word } } in
           let plain : is_redirected word ≡ false = (head_loaded (hash_of q.seed q.text) w.walk h.0.0).0 in
@@ -102,7 +102,7 @@ module _ (t : Table) (m : Memory) (p : Past) (f : Flow) (table : IsTable t m p f
     find_serves passed find.LoadNewLevel h = absurd h.0.0.2
     find_serves passed find.LoadNewHead h = record {
       backs = tt;
-      leads = λ m' made.
+      leads = λ m' made went.
           let word : ℕ = m (place.Head w.walk.row w.walk.bucket) in
           let along : Along = record w { walk = record w.walk { head = word } } in
           subst (λ (now : Memory). KnowsCall now p f i p.now.place passed q along (comes_to q w word (first_of word))) (sym (after_load (step.LoadHead w.walk.row w.walk.bucket) m m' refl made))

@@ -13,6 +13,7 @@ use Rattle.call_machine.specs.Machine as machines
 use Rattle.cht_core.specs.declared.table.Table.{Table}
 use Rattle.cht_core.specs.Backs.{Goes}
 use Rattle.cht_core.specs.Bounds.{Bounds}
+use Rattle.cht_core.specs.Edges.{UnlinkedLead}
 use Rattle.cht_core.specs.Flow.{Flow, flow_after}
 use Rattle.cht_core.specs.Invariant.{Inv, Moves, events_of}
 use Rattle.cht_core.specs.Memory.{Memory, found}
@@ -70,8 +71,8 @@ module _ (t : Table) (m m' : Memory) (seat seat' : ℕ → Option View) (log : L
 
   -- the invariant after the step, from what the step comes to, and what its own seat knows and has then
   pub step_keeps : Moves seat seat' i new_view → Goes t m past inv.flow i (machines.text_of k) s m' → ((h : Handle) → event ≡ Some (what.Drop h) → 1 ≤ inv.flow.holds i h)
-      → Knows t m' after flow i new_view → Owes after i new_view.seat → Bounds t m' seat' → Inv t m' seat' (log ++ events_of i event)
-  step_keeps moves goes drops knows owes bounds =
+      → Knows t m' after flow i new_view → Owes after i new_view.seat → Bounds t m' seat' → UnlinkedLead t m' (log ++ events_of i event) → Inv t m' seat' (log ++ events_of i event)
+  step_keeps moves goes drops knows owes bounds edges =
       let told_is : past_of t.shape.min_level (log ++ events_of i event) ≡ after = past_of-told t.shape.min_level log i event in
       record {
         flow = flow;
@@ -82,4 +83,5 @@ module _ (t : Table) (m m' : Memory) (seat seat' : ℕ → Option View) (log : L
         numbers = numbers_after_step t seat seat' log i v new_view event is refl moves inv.numbers;
         holds = holds_after_step t seat seat' log i v new_view event is refl moves inv.flow.holds inv.numbers inv.holds drops;
         lawful = lawful_told t log i event inv.lawful goes.told;
+        edges = edges;
       }

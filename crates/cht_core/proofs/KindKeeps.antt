@@ -27,7 +27,7 @@ use Rattle.cht_core.specs.declared.seat.Seat.{Seat}
 use Rattle.cht_core.specs.declared.seat.Seat.TheVariants as doing
 use Rattle.cht_core.specs.declared.table.Table.{Table}
 use Rattle.std.specs.Option.{option_map}
-use Rattle.cht_core.specs.Backs.{Backs, Goes}
+use Rattle.cht_core.specs.Backs.{Backs, Goes, KeepsTable}
 use Rattle.cht_core.specs.Bounds.{Bounds}
 use Rattle.cht_core.specs.Flow.{Flow}
 use Rattle.cht_core.specs.Invariant.{Inv, Moves, Keeps, events_of}
@@ -36,13 +36,14 @@ use Rattle.cht_core.specs.Owes.{Owes, IsAllOf}
 use Rattle.cht_core.specs.Past.{Past, past_of, told, MayTell, kind_of}
 use Rattle.cht_core.specs.View.{View, IsOfSeat, KnowsMachine, Knows, view_after}
 use Rattle.cht_core.proofs.BoundsKept.{draws_fit, raise_fits, bounds_kept_by_step}
+use Rattle.cht_core.proofs.EdgesKept.{unlinked_lead_after}
 use Rattle.cht_core.proofs.Finds.{finds}
 use Rattle.cht_core.proofs.GraceStages.{CanRaise}
 use Rattle.cht_core.proofs.Keeps.{step_keeps}
+use Rattle.cht_core.proofs.KindSteps.{StepsKeep}
 use Rattle.cht_core.proofs.MachineSteps.{Does, machine_does}
 use Rattle.cht_core.proofs.OfSeats.{of_seat_after}
 use Rattle.cht_core.proofs.OwesSteps.{owes_step}
-use Rattle.cht_core.proofs.TableSteps.{table_keeps}
 
 -- what is known of a seat whose call is running
 running_knows : (t : Table) (m : Memory) (p : Past) (f : Flow) (i : ℕ) (v : View) (k : Machine) → v.seat ≡ doing.Running k → Knows t m p f i v
@@ -87,7 +88,7 @@ drops_held t m p f i text (step.TakeResizeLock number) backs h is = absurd (anot
 drops_held t m p f i text _ backs h is = absurd (cc)
 
 module _ (t : Table) (m m' : Memory) (seat seat' : ℕ → Option View) (log : List Event) (i : ℕ) (v : View) (k : Machine) (s : Step) (inv : Inv t m seat log) (is : seat i ≡ Some v)
-    (running : v.seat ≡ doing.Running k) (planned : plan_of k ≡ plan.Step s) (made : IsMade s m m') where
+    (running : v.seat ≡ doing.Running k) (planned : plan_of k ≡ plan.Step s) (made : IsMade s m m') (keeps_table : KeepsTable s) where
   abbrev p : Past
   p = past_of t.shape.min_level log
 
@@ -107,8 +108,11 @@ module _ (t : Table) (m m' : Memory) (seat seat' : ℕ → Option View) (log : L
     does : Does t m p inv.flow i v.load v.passed (text_of k) s (λ w. got_of k w)
     does = machine_does t m p inv.flow inv.table i inside v.load v.passed k s known.0 known.1 owes small may planned
 
+    pub backs : Backs t m p inv.flow i (text_of k) s
+    backs = does.backs
+
     goes : Goes t m p inv.flow i (text_of k) s m'
-    goes = table_keeps s t m m' p inv.flow i (text_of k) inv.table inside sound does.backs made
+    goes = keeps_table t m m' p inv.flow i (text_of k) inv.table inside sound does.backs made
 
     -- the word that the step finds is one that its machine can be told
     can : CanBeFound t.shape s (found s m)
@@ -127,11 +131,13 @@ module _ (t : Table) (m m' : Memory) (seat seat' : ℕ → Option View) (log : L
         let own : Owes (told p i (event_of (text_of k) s (found s m))) i (doing.Running (got_of k (found s m))) =
         owes_step t m p inv.flow i v.load v.passed k s inv.table known.0 known.1 owes planned can (inv.table.words.small (access_of s).place) goes.told in
         let keeps : Inv t m' seat' (log ++ events_of i (event_of (text_of k) s (found s m))) =
-        step_keeps t m m' seat seat' log i v k s inv is moves goes (drops_held t m p inv.flow i (text_of k) s does.backs) (still_of, does.leads m' made goes) own bounds in
+        step_keeps t m m' seat seat' log i v k s inv is moves goes (drops_held t m p inv.flow i (text_of k) s does.backs) (still_of, does.leads m' made goes) own bounds
+        (unlinked_lead_after t m m' log inv.flow i (text_of k) s inv.table does.backs made inv.edges) in
         subst (λ (e : Option What). MayTell (kind_of t) p i e × Inv t m' seat' (log ++ events_of i e)) (sym (event_is k s (found s m) planned)) (goes.told, keeps)
 
-pub kind_keeps : (kind : StepKind) → Keeps kind
-kind_keeps kind t m m' seat seat' log i v k s inv is running planned of_kind made moves =
-    running_keeps t m m' seat seat' log i v k s inv is running planned made (draws_fit t m seat inv.table.shape inv.bounds)
+-- the law of a kind, by what its own steps keep
+pub kind_keeps : (kind : StepKind) → StepsKeep kind → Keeps kind
+kind_keeps kind keep t m m' seat seat' log i v k s inv is running planned of_kind made moves =
+    running_keeps t m m' seat seat' log i v k s inv is running planned made (keep s of_kind) (draws_fit t m seat inv.table.shape inv.bounds)
     (raise_fits t m seat log i v k s inv is running planned) moves
     (bounds_kept_by_step t m seat log i v k s inv is running planned m' seat' made moves)

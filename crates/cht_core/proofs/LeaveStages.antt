@@ -46,9 +46,9 @@ module _ (t : Table) (m : Memory) (p : Past) (f : Flow) (i load : ℕ) (passed :
 
   -- each stage of leaving a section
   pub leave_serves : (s : LeaveStage) → KnowsCall m p f i load passed q w (stage.Leave s) → Serves t m p f i load passed q (leave_row q w s)
-  leave_serves (leave.UndoCount k after) h = record { backs = (h.0.1, omega arith); leads = λ m' made. ((h.0.0, h.0.1.0), h.1) }
-  leave_serves (leave.UndoClaim slot after) h = record { backs = inl h.0.1; leads = λ m' made. ((h.0.0, tt), h.1) }
-  leave_serves (leave.Close after) h = record { backs = h.0.0; leads = λ m' made. closed_known m' made after h.0.1 h.1 }
+  leave_serves (leave.UndoCount k after) h = record { backs = (h.0.1, omega arith); leads = λ m' made went. ((h.0.0, h.0.1.0), h.1) }
+  leave_serves (leave.UndoClaim slot after) h = record { backs = inl h.0.1; leads = λ m' made went. ((h.0.0, tt), h.1) }
+  leave_serves (leave.Close after) h = record { backs = h.0.0; leads = λ m' made went. closed_known m' made after h.0.1 h.1 }
 
   draw_known : (m' : Memory) (b : Bool) (x y : CallStage) → KnowsStage m' p f i load passed q w x → KnowsStage m' p f i load passed q w y
       → KnowsStage m' p f i load passed q w (cond b x y)
@@ -59,8 +59,8 @@ module _ (t : Table) (m : Memory) (p : Past) (f : Flow) (i load : ℕ) (passed :
   pub draw_serves : (s : DrawStage) → m place.Draws + 1 < 2 ^ 64 → KnowsCall m p f i load passed q w (stage.Draw s) → Serves t m p f i load passed q (draw_row q w s)
   draw_serves draw.Load room h = record {
     backs = tt;
-    leads = λ m' made.
+    leads = λ m' made went.
         let word : ℕ = m place.Draws in
         (draw_known m' (nat_le q.shape.seats word) (stage.Answered answer.SeatsSpent) (stage.Draw draw.Add) h.0 h.0, h.1);
   }
-  draw_serves draw.Add room h = record { backs = room; leads = λ m' made. (h.0, h.1) }
+  draw_serves draw.Add room h = record { backs = room; leads = λ m' made went. (h.0, h.1) }

@@ -100,7 +100,7 @@ machine_raises m m' p f i load passed (machine.Sweep x) s known unheld planned m
     (λ at. machine.Sweep (sweeps.goes_to x.asked at)) (machine.Sweep x) (sweep_turn x.asked x.along x.stage) s (sweep_raises m m' x.asked x.along x.stage) planned made may
 
 -- no work, no sweep and no call that begins one draws a number
-begin_draws_not : (caller : Caller) (s : BeginStage) → IfMakes (λ does. does.step ≢ step.Draw) (begin_turn caller s)
+pub begin_draws_not : (caller : Caller) (s : BeginStage) → IfMakes (λ does. does.step ≢ step.Draw) (begin_turn caller s)
 begin_draws_not caller (begin.LoadCounter t) = λ e. cc
 begin_draws_not caller (begin.TakeResizeLock t) = λ e. cc
 begin_draws_not caller (begin.LoadLevel d) = λ e. cc
@@ -109,13 +109,13 @@ begin_draws_not caller (begin.Grace g RaiseCounter) = λ e. cc
 begin_draws_not caller (begin.Grace g LoadSection) = λ e. cc
 begin_draws_not caller (begin.Answered a l) = tt
 
-poll_draws_not : (m : Memory) (p : Past) (f : Flow) (i : ℕ) (caller : Caller) (w : Work) (a : Option Answer) → IfSome (work_left w a) (KnowsWork m p f i)
+pub poll_draws_not : (m : Memory) (p : Past) (f : Flow) (i : ℕ) (caller : Caller) (w : Work) (a : Option Answer) → IfSome (work_left w a) (KnowsWork m p f i)
     → IfMakes (λ does. does.step ≢ step.Draw) (poll_turn caller (w, a))
 poll_draws_not m p f i caller w (Some a) known = tt
 poll_draws_not m p f i caller (work.Clean c) None known = clean_draws_not caller.shape c.along c.stage
 poll_draws_not m p f i caller (work.Resize r) None known = absurd known
 
-sweep_draws_not : (q : SweepAsked) (w : SweepAlong) (s : SweepStage) → IfMakes (λ does. does.step ≢ step.Draw) (sweep_turn q w s)
+pub sweep_draws_not : (q : SweepAsked) (w : SweepAlong) (s : SweepStage) → IfMakes (λ does. does.step ≢ step.Draw) (sweep_turn q w s)
 sweep_draws_not q w sweep.Check = λ e. cc
 sweep_draws_not q w (sweep.Find s) = (find_plain q.caller.number q.hash w.walk s).1
 sweep_draws_not q w sweep.Lock = (lock_plain w.walk.row w.walk.bucket (LockHead w.walk.head)).1

@@ -81,7 +81,7 @@ module _ (t : Table) (m : Memory) (p : Past) (f : Flow) (table : IsTable t m p f
       (λ does serves try. record {
         backs = serves.backs;
         leads = λ m' made goes. (
-          serves.leads m' made,
+          serves.leads m' made goes,
           own_work_grows m p f m' (past_by p i c.asked.text does.step m) (flow_of f i c.asked.text does.step m) goes.grows t table.tidy i (goes.leaves try) w known.1,
           own_grace_grows m p f m' (past_by p i c.asked.text does.step m) (flow_of f i c.asked.text does.step m) goes.grows g known.2,
         );

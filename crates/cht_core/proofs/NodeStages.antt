@@ -66,7 +66,7 @@ module _ (t : Table) (m : Memory) (p : Past) (f : Flow) (table : IsTable t m p f
   serves_meta : (x : ℕ) → KnowsCall m p f i load passed q w (stage.Node (node.Meta x)) → Serves t m p f i load passed q (node_row q w (node.Meta x))
   serves_meta x h = record {
     backs = tt;
-    leads = λ m' made.
+    leads = λ m' made went.
         let word : ℕ = m (place.Meta x) in
         let own : ℕ = meta_word (meta_of q.seed q.text) in
         let at : AtNode m p.now f i load passed q w x = h.0.0 in
@@ -87,7 +87,7 @@ module _ (t : Table) (m : Memory) (p : Past) (f : Flow) (table : IsTable t m p f
   serves_text : (x at : ℕ) → at < words_of (length q.text) → KnowsCall m p f i load passed q w (stage.Node (node.Text x at)) → Serves t m p f i load passed q (node_row q w (node.Text x at))
   serves_text x at within h = record {
     backs = tt;
-    leads = λ m' made.
+    leads = λ m' made went.
         let word : ℕ = m (place.Text x at) in
         let own : ℕ = word_at q.text at in
         subst (λ (now : Memory). KnowsCall now p f i load passed q w (stage.Node (cond (word == own) (compares_from q.text x (at + 1)) (node.Link x))))
@@ -128,7 +128,7 @@ module _ (t : Table) (m : Memory) (p : Past) (f : Flow) (table : IsTable t m p f
   serves_count : (x : ℕ) → KnowsCall m p f i load passed q w (stage.Node (node.Count x)) → Serves t m p f i load passed q (node_row q w (node.Count x))
   serves_count x h = record {
     backs = (asked.kind, h.0.0.1);
-    leads = λ m' made.
+    leads = λ m' made went.
         let word : ℕ = m (place.Count x) in
         let e : Option What = found_entry q.text q.kind x word in
         subst (λ (now : Memory). KnowsCall now (told p i e) (record f { chain = f.chain; holds = holds_after i e f.holds }) i load passed q w
@@ -140,7 +140,7 @@ module _ (t : Table) (m : Memory) (p : Past) (f : Flow) (table : IsTable t m p f
   serves_link : (x : ℕ) → KnowsCall m p f i load passed q w (stage.Node (node.Link x)) → Serves t m p f i load passed q (node_row q w (node.Link x))
   serves_link x h = record {
     backs = tt;
-    leads = λ m' made.
+    leads = λ m' made went.
         let at : AtNode m p.now f i load passed q w x = h.0.0.0 in
         let hash : ℕ = hash_of q.seed q.text in
         let walking : Walking m p.now f i q.text hash w.walk.row load (first_of w.walk.head) (x ∷ passed) (links m x) =
@@ -161,7 +161,7 @@ module _ (t : Table) (m : Memory) (p : Past) (f : Flow) (table : IsTable t m p f
 
   -- the count of a match is exchanged for one more
   serves_take : (x count : ℕ) → q.kind ≡ Counted → KnowsCall m p f i load passed q w (stage.Node (node.Take x count)) → Serves t m p f i load passed q (node_row q w (node.Take x count))
-  serves_take x count kind h = record { backs = (sym asked.kind ∙ kind, h.0.0.0, h.0.0.1); leads = λ m' made. (goes m' made (m (place.Count x) == count), h.1) }
+  serves_take x count kind h = record { backs = (sym asked.kind ∙ kind, h.0.0.0, h.0.0.1); leads = λ m' made went. (goes m' made (m (place.Count x) == count), h.1) }
     where
       seen : IsSeenWith p.now i x q.text
       seen = h.0.0.0

@@ -272,4 +272,5 @@ module _ (t : Table) (m : Memory) (shape : IsSound t.shape) (even : t.first_coun
       numbers = opening_numbers;
       holds = opening_holds;
       lawful = λ short. record { allowed = tt; fresh = tt };
+      edges = λ s next k at is. absurd (cc);
     }

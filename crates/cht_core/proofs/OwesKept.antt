@@ -33,7 +33,7 @@ abbrev pub OwnsAtMost : Past → ℕ → Bool → Type 0
 OwnsAtMost p i has = owner_of p.now.resizing ≡ Some i → has ≡ true
 
 -- the value of a function that was changed at one place
-changed_at : {A : Type 0} (g : ℕ → A) (k : ℕ) (value : A) (n : ℕ) (now : A) → with_at g k value n ≡ now → ((n ≡ k) × (value ≡ now)) ⊎ ((n ≢ k) × (g n ≡ now))
+pub changed_at : {A : Type 0} (g : ℕ → A) (k : ℕ) (value : A) (n : ℕ) (now : A) → with_at g k value n ≡ now → ((n ≡ k) × (value ≡ now)) ⊎ ((n ≢ k) × (g n ≡ now))
 changed_at g k value n now is = elim (cases_eq n k) [
   | inl same ↦ inl (same, sym (with_here g k value n same) ∙ is)
   | inr differ ↦ inr (differ, sym (with_other g k value n differ) ∙ is)

@@ -1,11 +1,9 @@
 -- The parts of the invariant hold.
-use Rattle.std.proofs.Common.{false, ◌≡◌, ℕ, ◌+◌, ◌*◌, ◌/◌, ◌%◌, ◌^◌, ◌<◌, ◌≤◌, ◌⊎◌, List, [], ◌∷◌, Option, Some, None, refl, sym, ap, subst, ◌∙◌, inl, inr, arith}
+use Rattle.std.proofs.Common.{false, ◌≡◌, ℕ, ◌+◌, ◌*◌, ◌/◌, ◌%◌, ◌<◌, ◌≤◌, ◌⊎◌, List, [], ◌∷◌, Option, Some, None, refl, sym, ap, subst, ◌∙◌, inl, inr, arith}
 use Rattle.std.specs.Option.{option_map}
-use Rattle.std.proofs.Math.Nat.{mod-lt}
-use Rattle.std.proofs.lemmas.Nat.{pow_pos}
 use Rattle.chain_core.specs.Nodes.{On}
 use Rattle.chain_core.specs.Path.{IsPath}
-use Rattle.chain_core.proofs.Ways.{path_begins, path_one}
+use Rattle.chain_core.proofs.Ways.{path_one}
 use Rattle.text_words.specs.Hash.{hash_of}
 use Rattle.marked_word.specs.Head.{is_locked, first_of}
 use Rattle.marked_word.specs.Number.{section_word}
@@ -24,10 +22,11 @@ use Rattle.intern_log.proofs.OrderlyLaws.{lawful_is_orderly}
 use Rattle.call_machine.specs.declared.stage.Calling.{Calling}
 use Rattle.cht_core.specs.declared.table.Table.{Table}
 use Rattle.cht_core.specs.Chains.{AreRanked, birth, born}
+use Rattle.cht_core.specs.Edges.{UnlinkedLead}
 use Rattle.cht_core.specs.Flow.{Flow, IsUsed, bucket_in}
 use Rattle.cht_core.specs.Invariant.{Inv}
 use Rattle.cht_core.specs.Memory.{Memory, links}
-use Rattle.cht_core.specs.Parts.{EdgesLead, SectionsAreCounted, SectionsAreCountedAtOpen, WalkersStandSafely, WalkersAreLedSafely}
+use Rattle.cht_core.specs.Parts.{EdgesLead, UnlinkedLeadLater, SectionsAreCounted, SectionsAreCountedAtOpen, WalkersStandSafely, WalkersAreLedSafely}
 use Rattle.cht_core.specs.Parts.{GracesHavePlaces, PassedSectionsAreNewer, IsWalk, WalksAreRouted, WalkersMissNothing}
 use Rattle.cht_core.specs.Parts.{FirstNodesAreOld, InsertedTextsAreAbsent, NodesAreVisitedOnce, PassedNodesAreFew, call_of}
 use Rattle.cht_core.specs.Past.{Past, past_of, kind_of}
@@ -35,19 +34,13 @@ use Rattle.cht_core.specs.Search.{IsLinked, IsAnchor}
 use Rattle.cht_core.specs.TableState.{IsTable}
 use Rattle.cht_core.specs.View.{View}
 use Rattle.cht_core.proofs.CreateParts.{all_before_load}
+use Rattle.cht_core.proofs.EdgesKept.{unlinked_later}
+use Rattle.cht_core.proofs.EdgesLead.{on_chain_linked, edges_lead}
 use Rattle.cht_core.proofs.HeadWords.{first_of_head}
 use Rattle.cht_core.proofs.Locking.{unlocked_path}
 use Rattle.cht_core.proofs.PartsGraced.{grace_known}
 use Rattle.cht_core.proofs.PartsKnown.{CallKnown, call_known, WalkKnown, walk_known, held_known}
 use Rattle.cht_core.proofs.Walks.{few_passed, routed_used, none_ahead}
-
--- what a node of a path links to is on the path
-next_on_path : (next : ℕ → Option ℕ) (from : Option ℕ) (nodes : List ℕ) (s after : ℕ) → IsPath next from nodes → On s nodes → next s ≡ Some after → On after nodes
-next_on_path next from [] s after path on leads = absurd on
-next_on_path next from (x ∷ nodes) s after path on leads = elim on [
-  | inl is ↦ inr (path_begins next after nodes (subst (λ to. IsPath next to nodes) (ap next is ∙ leads) path.1))
-  | inr later ↦ inr (next_on_path next (next x) nodes s after path.1 later leads)
-]
 
 -- a section word without its lowest bit is at most the counter that its section was opened with, and that is at most the present one
 below_counter : (word counter : ℕ) (section : Option OpenSection) → word ≡ section_word (option_map (λ (o : OpenSection). o.counter) section) → (word ≡ 0) ⊎ (word % 2 ≡ 1)
@@ -84,29 +77,6 @@ none_from None never = refl
 none_from (Some e) never = absurd (never e refl)
 
 module _ (t : Table) (m : Memory) (p : Past) (f : Flow) (table : IsTable t m p f) where
-  -- the nodes of a chain are linked
-  on_chain_linked : (row bucket s : ℕ) → IsUsed p.now f row bucket → On s (f.chain row bucket) → IsLinked p.now s
-  on_chain_linked row bucket s used on = let is = table.chains.on_linked row bucket s used on in (is.0, is.1, is.2, is.3)
-
-  -- links of linked slots, and heads
-  edges_lead : EdgesLead m p.now
-  edges_lead = record { of_links = of_links; of_heads = of_heads }
-    where
-      of_links : (s next : ℕ) → IsLinked p.now s → links m s ≡ Some next → IsLinked p.now next
-      of_links s next linked leads =
-          let bucket : ℕ = bucket_in p.now.level (hash_of p.now.seed linked.0) in
-          let used : IsUsed p.now f p.now.level bucket = (refl, mod-lt (hash_of p.now.seed linked.0) (pow_pos p.now.level)) in
-          let path = table.heads.paths p.now.level bucket used in
-          let on : On s (f.chain p.now.level bucket) = table.chains.linked_on s linked.0 linked.1 linked.2 p.now.level linked.3 refl in
-          on_chain_linked p.now.level bucket next used (next_on_path (links m) path.0 (f.chain p.now.level bucket) s next path.2 on leads)
-
-      of_heads : (bucket first : ℕ) → bucket < 2 ^ p.now.level → first_of (m (place.Head p.now.level bucket)) ≡ Some first → IsLinked p.now first
-      of_heads bucket first below leads =
-          let path = table.heads.paths p.now.level bucket (refl, below) in
-          let is : path.0 ≡ Some first = sym (ap first_of path.1 ∙ first_of_head path.0 (p.now.lock p.now.level bucket)) ∙ leads in
-          let way : IsPath (links m) (Some first) (f.chain p.now.level bucket) = subst (λ from. IsPath (links m) from (f.chain p.now.level bucket)) is path.2 in
-          on_chain_linked p.now.level bucket first (refl, below) (path_begins (links m) first (f.chain p.now.level bucket) way)
-
   sections_counted : SectionsAreCounted m
   sections_counted k = below_counter (m (place.Section k)) (m place.Counter) (p.now.section k) (table.sections.words k) (table.words.sound (place.Section k))
       (λ o is. subst (λ counter. o.counter ≤ counter) (sym table.sections.counter) (table.tidy.sections k o is).1)
@@ -122,7 +92,7 @@ module _ (t : Table) (m : Memory) (p : Past) (f : Flow) (table : IsTable t m p f
       let at = unlocked_path t m p f row bucket head table used word unlocked in
       let first : first_of head ≡ at.first = ap first_of at.word ∙ first_of_head at.first None in
       let path : IsPath (links m) (first_of head) (f.chain row bucket) = subst (λ from. IsPath (links m) from (f.chain row bucket)) (sym first) at.path in
-      let linked : (x : ℕ) → On x (f.chain row bucket) → IsLinked p.now x = λ x. on_chain_linked row bucket x used in
+      let linked : (x : ℕ) → On x (f.chain row bucket) → IsLinked p.now x = λ x. on_chain_linked t m p f table row bucket x used in
       before_load p.now since load (f.base row bucket) (links m) (first_of head) (f.chain row bucket) s anchor path linked early (table.chains.ranked row bucket used) on
 
 module _ (t : Table) (m : Memory) (seat : ℕ → Option View) (log : List Event) (inv : Inv t m seat log) where
@@ -138,6 +108,13 @@ module _ (t : Table) (m : Memory) (seat : ℕ → Option View) (log : List Event
   -- the links of linked slots and the heads lead to linked slots
   pub edges_hold : EdgesLead m past.now
   edges_hold = edges_lead t m past inv.flow inv.table
+
+  -- and those of unlinked slots to slots that were linked as those were unlinked, and were unlinked after them, if they were
+  pub unlinked_edges_hold : UnlinkedLead t m log
+  unlinked_edges_hold = inv.edges
+
+  pub unlinked_edges_later : UnlinkedLeadLater m past.now
+  unlinked_edges_later = unlinked_later t m log inv.table.tidy inv.edges
 
   -- the section words are at most the counter
   pub sections_hold : SectionsAreCounted m

@@ -71,6 +71,7 @@ may_be_added t m seat seat' log i inv free inside unused moves =
       numbers = seats.0;
       holds = seats.1;
       lawful = inv.lawful;
+      edges = inv.edges;
     }
 
 -- the holds with those of one seat added to another one's
@@ -122,7 +123,7 @@ handed_more holds i j k differ other h = elim (cases_eq k i) [
 ]
 
 -- a seat that is idle without a work has nothing
-idle_owes_nothing : (p : Past) (i : ℕ) (own : Own) → own.work ≡ None → IsOutside p.now i → Owes p i (doing.Idle own) → OwesNothing p i
+pub idle_owes_nothing : (p : Past) (i : ℕ) (own : Own) → own.work ≡ None → IsOutside p.now i → Owes p i (doing.Idle own) → OwesNothing p i
 idle_owes_nothing p i own none outside owes =
     let had : Owes p i (doing.Idle (record own { work = None })) = subst (λ (o : Option Work). Owes p i (doing.Idle (record own { work = o }))) none owes in
     record {
@@ -215,6 +216,7 @@ module _ (t : Table) (m : Memory) (seat seat' : ℕ → Option View) (log : List
         numbers = seats.0;
         holds = seats.1;
         lawful = inv.lawful;
+        edges = inv.edges;
       }
 
 -- an idle seat without a work may be joined into another one, which then has the numbers and the holds of both

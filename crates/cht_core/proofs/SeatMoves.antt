@@ -159,4 +159,5 @@ module _ (t : Table) (m : Memory) (seat seat' : ℕ → Option View) (log : List
     holds = subst (λ l. Holds seat' l inv.flow.holds) (append-nil log)
         (holds_after_step t seat seat' log i v v' None at same moves inv.flow.holds inv.numbers inv.holds (λ h is. absurd (cc)));
     lawful = inv.lawful;
+    edges = inv.edges;
   }

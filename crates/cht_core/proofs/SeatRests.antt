@@ -83,7 +83,7 @@ module _ (m : Memory) (p : Past) (f : Flow) (i load : ℕ) (passed : List ℕ) (
   begun_knows caller (left.Grace g) outside known = (outside, tt, known)
 
   -- of a machine that has answered its seat knows what it has of its own
-  rests_knows : (k : Machine) → plan_of k ≡ plan.Answered a → KnowsMachine m p f i load passed k → KnowsOwn m p f i (own_of k)
+  pub rests_knows : (k : Machine) → plan_of k ≡ plan.Answered a → KnowsMachine m p f i load passed k → KnowsOwn m p f i (own_of k)
   rests_knows (machine.Call c w g) is known =
       let at : c.stage ≡ stage.Answered a = call_answered c.asked c.along c.stage a (sym (plan_is (machine.Call c w g)) ∙ is) in
       (subst (λ (s : CallStage). KnowsStage m p f i load passed c.asked c.along s) at known.0.0, known.1, known.2)

@@ -11,7 +11,7 @@ use Rattle.cht_core.specs.declared.seat.Seat.TheVariants as doing
 use Rattle.cht_core.specs.declared.table.Table.{Table}
 use Rattle.cht_core.specs.Begins.{first_own}
 use Rattle.cht_core.specs.Memory.{memory_of}
-use Rattle.cht_core.specs.State.{IsCore, IsGoing, IsFirstCounter, seat_in, view_of, views_of, opening_words, first_seats_of, opening_of}
+use Rattle.cht_core.specs.State.{IsCore, IsGoing, HasResting, IsFirstCounter, seat_in, view_of, views_of, opening_words, first_seats_of, opening_of}
 use Rattle.cht_core.proofs.OpeningState.{opening_inv, opening_view}
 use Rattle.cht_core.proofs.StateStarts.{AreDrawn}
 use Rattle.cht_core.proofs.StateWords.{get_or-replicate, length-same, opening_sized, opening_draws, opening_is}
@@ -34,6 +34,15 @@ module _ (t : Table) (shape : IsSound t.shape) (counter : IsFirstCounter t.first
         let at : seat_in (first_seats_of t.shape) k ≡ first = ap (seat_in (first_seats_of t.shape)) here in
         let same : doing.Idle (first_own t.shape 0) ≡ s = cc in
         subst IsGoing same tt
+    | inr differ ↦ let none = no_other k differ in absurd (cc)
+  ]
+
+  opening_rests : (k : ℕ) (s : Seat) → seat_in (first_seats_of t.shape) k ≡ Some s → HasResting s
+  opening_rests k s is = elim (cases_eq k 0) [
+    | inl here ↦
+        let at : seat_in (first_seats_of t.shape) k ≡ first = ap (seat_in (first_seats_of t.shape)) here in
+        let same : doing.Idle (first_own t.shape 0) ≡ s = cc in
+        subst HasResting same tt
     | inr differ ↦ let none = no_other k differ in absurd (cc)
   ]
 
@@ -66,6 +75,8 @@ module _ (t : Table) (shape : IsSound t.shape) (counter : IsFirstCounter t.first
         (λ k differ. ap (view_of (0, []) k) (no_other k differ));
     going = opening_goes;
     drawn = opening_drawn;
+    told = tt;
+    rests = opening_rests;
   }
 
   -- the same over what was made on the way

@@ -1,5 +1,5 @@
 -- The seats of a state by their numbers, and the state after a call was started.
-use Rattle.std.proofs.Common.{◌≡◌, ◌≢◌, ℕ, zero, suc, ◌<◌, ◌≤◌, ◌↔◌, List, [], ◌∷◌, length, get_or, set, Option, Some, None, inl, inr, refl, sym, ap, subst, ◌∙◌, arith}
+use Rattle.std.proofs.Common.{◌≡◌, ◌≢◌, ℕ, ◌<◌, ◌↔◌, List, [], ◌∷◌, length, get_or, set, Option, Some, None, inl, inr, refl, sym, ap, subst, ◌∙◌, arith}
 use Rattle.std.proofs.lemmas.Bool.{cases_eq}
 use Rattle.std.proofs.lemmas.List.{get_or-set_same, get_or-set_other, get_or_read, length-set, set-set}
 use Rattle.table_shape.specs.declared.place.Place.TheVariants as place
@@ -26,11 +26,13 @@ use Rattle.cht_core.specs.declared.table.Table.{Table}
 use Rattle.cht_core.specs.Begins.{MeetsLog, IsOfOneLevel, HasBytes}
 use Rattle.cht_core.specs.Invariant.{Inv, Moves}
 use Rattle.cht_core.specs.Memory.{Memory, memory_of}
-use Rattle.cht_core.specs.State.{Core, IsCore, IsGoing, seat_in, view_of, views_of, at_rest, seat_after, with_seat, StartsAs, started_as, started_by, answer_by, kind_by, kind_next}
+use Rattle.cht_core.specs.Past.{past_of}
+use Rattle.cht_core.specs.State.{Core, IsCore, IsGoing, HasResting, seat_in, view_of, views_of, at_rest, seat_after, with_seat, StartsAs, started_as, started_by, answer_by, kind_by, kind_next}
 use Rattle.cht_core.specs.View.{View, IsOwnOf}
 use Rattle.cht_core.proofs.Basics.{with_here, with_other}
 use Rattle.cht_core.proofs.SeatBegins.{may_begin}
 use Rattle.cht_core.proofs.SeatRests.{may_rest}
+use Rattle.cht_core.proofs.StateRests.{rests_begun, rests_after}
 
 -- SEATS BY THEIR NUMBERS
 
@@ -94,14 +96,14 @@ goes_after machine = go (plan_of machine) refl
     go (plan.Step s) is = (s, is)
     go (plan.Answered a) is = tt
 
-pub all_go : (seats : List (Option Seat)) (k : ℕ) (s : Seat) → k < length seats → ((j : ℕ) (u : Seat) → seat_in seats j ≡ Some u → IsGoing u) → IsGoing s
-    → (j : ℕ) (u : Seat) → seat_in (set seats k (Some s)) j ≡ Some u → IsGoing u
-all_go seats k s below going goes j u is = elim (cases_eq j k) [
-  | inl here ↦
-      let at : seat_in (set seats k (Some s)) j ≡ Some s = ap (seat_in (set seats k (Some s))) here ∙ seat_same seats k (Some s) below in
-      let same : s ≡ u = cc in
-      subst IsGoing same goes
-  | inr differ ↦ going j u (sym (seat_other seats k j (Some s) differ) ∙ is)
+pub all_are : (Is : Seat → Type 0) (seats : List (Option Seat)) (k : ℕ) (s : Seat) → k < length seats → ((j : ℕ) (u : Seat) → seat_in seats j ≡ Some u → Is u) → Is s
+    → (j : ℕ) (u : Seat) → seat_in (set seats k (Some s)) j ≡ Some u → Is u
+all_are Is seats k s below all here j u is = elim (cases_eq j k) [
+  | inl same ↦
+      let at : seat_in (set seats k (Some s)) j ≡ Some s = ap (seat_in (set seats k (Some s))) same ∙ seat_same seats k (Some s) below in
+      let now : s ≡ u = cc in
+      subst Is now here
+  | inr differ ↦ all j u (sym (seat_other seats k j (Some s) differ) ∙ is)
 ]
 
 -- the numbers below a bound are those of seats
@@ -133,6 +135,12 @@ next_kind_is seats k machine shape op kind at wants = sym (ap kind_next at ∙ k
 
 -- A CALL IS STARTED
 
+-- a state after a start or a step of a seat, with what is left of the others
+pub record IsAfter (c new : Core) (was : IsCore c) (k : ℕ) (sight : ℕ × List ℕ) (s : Seat) : Type 0 where
+  pub core : IsCore new
+  pub own : (core.sights k ≡ sight) × (seat_in new.seats k ≡ Some s)
+  pub other : (i : ℕ) (u : Seat) → i ≢ k → seat_in c.seats i ≡ Some u → (core.sights i ≡ was.sights i) × (seat_in new.seats i ≡ Some u)
+
 module _ (c : Core) (core : IsCore c) (k : ℕ) (own : Own) (at : seat_in c.seats k ≡ Some (doing.Idle own)) where
   known : IsOwnOf c.table k own
   known = (core.inv.knows k (view_at (core.sights k) k (doing.Idle own)) (view_is core.sights c.seats k (doing.Idle own) at)).0
@@ -148,6 +156,10 @@ module _ (c : Core) (core : IsCore c) (k : ℕ) (own : Own) (at : seat_in c.seat
 
   module _ (asked : Call) (bytes : HasBytes asked) (may : MayStart c.table.kind c.table.shape own asked) (level : IsOfOneLevel asked)
       (meets : MeetsLog c.table.kind c.log (own.number ∷ []) asked) where
+    moved : Moves (views_of core.sights c.seats) (views_of (with_at core.sights k ((core.sights k).0, [])) (set c.seats k (Some (doing.Running (begins asked))))) k
+        (view_at ((core.sights k).0, []) k (doing.Running (begins asked)))
+    moved = views_move core.sights c.seats k ((core.sights k).0, []) (doing.Running (begins asked)) idle_below
+
     running : Inv c.table (memory_of c.table.shape c.words) (views_of (with_at core.sights k ((core.sights k).0, [])) (set c.seats k (Some (doing.Running (begins asked))))) c.log
     running =
         may_begin c.table (memory_of c.table.shape c.words) (views_of core.sights c.seats) (views_of (with_at core.sights k ((core.sights k).0, []))
@@ -155,20 +167,30 @@ module _ (c : Core) (core : IsCore c) (k : ℕ) (own : Own) (at : seat_in c.seat
         (view_at (core.sights k) k (doing.Idle own)) own asked core.inv (view_is core.sights c.seats k (doing.Idle own) at) refl may level bytes
         (subst (λ n. MeetsLog c.table.kind c.log (n ∷ []) asked) known.number meets)
         (subst (λ seed. Moves (views_of core.sights c.seats) (views_of (with_at core.sights k ((core.sights k).0, [])) (set c.seats k (Some (doing.Running (begins asked))))) k
-        (view_at ((core.sights k).0, []) k (doing.Running (started c.table.kind c.table.shape seed own asked)))) core.seed
-        (views_move core.sights c.seats k ((core.sights k).0, []) (doing.Running (begins asked)) idle_below))
+        (view_at ((core.sights k).0, []) k (doing.Running (started c.table.kind c.table.shape seed own asked)))) core.seed moved)
 
     -- the state after the call was started
-    pub started_core : IsCore (with_seat c k (seat_after (begins asked)))
-    started_core = record {
-      sights = with_at core.sights k ((core.sights k).0, []);
-      sized = core.sized;
-      seats = length-set c.seats k (Some (seat_after (begins asked))) ∙ core.seats;
-      seed = core.seed;
-      inv = comes_to_rest c.table (memory_of c.table.shape c.words) c.log (with_at core.sights k ((core.sights k).0, [])) c.seats k (begins asked) idle_below running;
-      going = all_go c.seats k (seat_after (begins asked)) idle_below core.going (goes_after (begins asked));
-      drawn = drawn_still c.table.shape.seats c.seats (word_at c.table.shape place.Draws c.words) k (doing.Idle own) (seat_after (begins asked)) idle_below at core.drawn;
+    pub started_after : IsAfter c (with_seat c k (seat_after (begins asked))) core k ((core.sights k).0, []) (seat_after (begins asked))
+    started_after = record {
+      core = record {
+        sights = with_at core.sights k ((core.sights k).0, []);
+        sized = core.sized;
+        seats = length-set c.seats k (Some (seat_after (begins asked))) ∙ core.seats;
+        seed = core.seed;
+        inv = comes_to_rest c.table (memory_of c.table.shape c.words) c.log (with_at core.sights k ((core.sights k).0, [])) c.seats k (begins asked) idle_below running;
+        going = all_are IsGoing c.seats k (seat_after (begins asked)) idle_below core.going (goes_after (begins asked));
+        drawn = drawn_still c.table.shape.seats c.seats (word_at c.table.shape place.Draws c.words) k (doing.Idle own) (seat_after (begins asked)) idle_below at core.drawn;
+        told = core.told;
+        rests = all_are HasResting c.seats k (seat_after (begins asked)) idle_below core.rests
+            (rests_after (memory_of c.table.shape c.words) (past_of c.table.shape.min_level c.log) running.flow k (core.sights k).0 [] (begins asked)
+            (running.knows k (view_at ((core.sights k).0, []) k (doing.Running (begins asked))) moved.own).1 (rests_begun c.table c.seed own asked (core.rests k (doing.Idle own) at)));
+      };
+      own = (with_here core.sights k ((core.sights k).0, []) k refl, seat_same c.seats k (Some (seat_after (begins asked))) idle_below);
+      other = λ i u differ is. (with_other core.sights k ((core.sights k).0, []) i differ, seat_other c.seats k i (Some (seat_after (begins asked))) differ ∙ is);
     }
+
+    pub started_core : IsCore (with_seat c k (seat_after (begins asked)))
+    started_core = started_after.core
 
     -- what starting it came to
     pub started_as_said : (said : Started) (new : Core) → said ≡ started_as (plan_of (begins asked)) → new ≡ with_seat c k (seat_after (begins asked))

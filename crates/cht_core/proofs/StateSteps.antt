@@ -29,8 +29,8 @@ use Rattle.atomic_step.specs.Table.{word_at, words_after}
 use Rattle.call_machine.specs.declared.machine.Machine.{Machine}
 use Rattle.call_machine.specs.declared.caller.Caller.{Caller}
 use Rattle.call_machine.specs.declared.machine.Machine.TheVariants as machine
-use Rattle.call_machine.specs.Machine.{plan_of, got_of, event_of, shape_of, IsSameMachine}
-use Rattle.call_machine.specs.SoundMachine.{FitsMachine}
+use Rattle.call_machine.specs.Machine.{plan_of, got_of, event_of, shape_of, passed_of, IsSameMachine}
+use Rattle.call_machine.specs.SoundMachine.{IsSoundMachine, FitsMachine}
 use Rattle.call_machine.proofs.Machines.{step_law, same_law}
 use Rattle.cht_core.specs.declared.seat.Seat.{Seat}
 use Rattle.cht_core.specs.declared.seat.Seat.TheVariants as doing
@@ -41,12 +41,15 @@ use Rattle.cht_core.specs.Invariant.{Inv, Moves, events_of}
 use Rattle.cht_core.specs.Memory.{Memory, IsMade, found, memory_of}
 use Rattle.cht_core.specs.Past.{past_of, MayTell, kind_of}
 use Rattle.cht_core.specs.Shows.{ShowsLog}
-use Rattle.cht_core.specs.State.{Core, IsCore, IsGoing, seat_in, view_of, views_of, seat_after, answer_by, stepped_by, stepped_as, drawn_in, with_drawn, after_step, StepsAs}
+use Rattle.cht_core.specs.State.{Core, IsCore, IsGoing, HasResting, seat_in, view_of, views_of, seat_after, answer_by, stepped_by, stepped_as, drawn_in, with_drawn, after_step, StepsAs}
 use Rattle.cht_core.specs.View.{View, IsOfSeat, load_after, passed_after, view_after, seed_in}
-use Rattle.cht_core.proofs.Basics.{place_cases}
+use Rattle.cht_core.proofs.Basics.{place_cases, with_here, with_other}
+use Rattle.cht_core.proofs.CauseLogs.{told_more}
+use Rattle.cht_core.proofs.PartsHold.{passed_hold}
 use Rattle.cht_core.proofs.SeatJoins.{may_be_added}
 use Rattle.cht_core.proofs.ShowsLog.{reached_words_show_the_log}
-use Rattle.cht_core.proofs.StateStarts.{seat_same, seat_other, view_at, view_is, no_view, views_move, comes_to_rest, goes_after, all_go, AreDrawn, drawn_still}
+use Rattle.cht_core.proofs.StateRests.{rests_on, rests_after}
+use Rattle.cht_core.proofs.StateStarts.{IsAfter, seat_same, seat_other, view_at, view_is, no_view, views_move, comes_to_rest, goes_after, all_are, AreDrawn, drawn_still}
 use Rattle.cht_core.proofs.StateWords.{memory_at, words_made, index_in_op, deed_in_op}
 
 -- a step of any kind by any seat whose call is running: its event may be added, and the invariant is met again; and its machine may be told the word that is found
@@ -89,7 +92,7 @@ seen_number sight k i (Some s) v is none =
     let apart : nat_eq i k ≡ false = ne_eqb i k (λ same. let gone : Some s ≡ None = none (sym same) in absurd (cc)) in
     ap (λ l. is_among l i) numbers ∙ ap (λ b. b || false) apart
 
-none_is : (seats : List (Option Seat)) (k : ℕ) → ¬ (seat_in seats k ≢ None) → seat_in seats k ≡ None
+pub none_is : (seats : List (Option Seat)) (k : ℕ) → ¬ (seat_in seats k ≢ None) → seat_in seats k ≡ None
 none_is seats k not = go (seat_in seats k) refl
   where
     go : (o : Option Seat) → seat_in seats k ≡ o → o ≡ None
@@ -103,21 +106,27 @@ record AreSeats (t : Table) (m : Memory) (log : List Event) (seats : List (Optio
   inv : Inv t m (views_of sights seats) log
   going : (k : ℕ) (s : Seat) → seat_in seats k ≡ Some s → IsGoing s
   drawn : AreDrawn t.shape.seats seats word
+  rests : (k : ℕ) (s : Seat) → seat_in seats k ≡ Some s → HasResting s
+
+-- the same of seats that may have come to be more, with the sights of those that were there
+record AreMore (t : Table) (m : Memory) (log : List Event) (seats new : List (Option Seat)) (sights : ℕ → ℕ × List ℕ) (word : ℕ) : Type 0 where
+  are : AreSeats t m log new word
+  same : (k : ℕ) (s : Seat) → seat_in seats k ≡ Some s → (are.sights k ≡ sights k) × (seat_in new k ≡ Some s)
 
 -- a new seat comes where a number is drawn
-new_comes : (t : Table) (m : Memory) (log : List Event) (seats : List (Option Seat)) (word : ℕ) → AreSeats t m log seats word → word < t.shape.seats
-    → AreSeats t m log (set seats word (Some (doing.Idle (first_own t.shape word)))) (word + 1)
+new_comes : (t : Table) (m : Memory) (log : List Event) (seats : List (Option Seat)) (word : ℕ) (are : AreSeats t m log seats word) → word < t.shape.seats
+    → AreMore t m log seats (set seats word (Some (doing.Idle (first_own t.shape word)))) are.sights (word + 1)
 new_comes t m log seats word are inside =
     let below : word < length seats = let whole = are.whole in omega (arith, inside, whole) in
     let empty : seat_in seats word ≡ None = none_is seats word (λ some. let less = (are.drawn word inside).0 some in absurd (omega (arith, less))) in
-    record {
+    let all : AreSeats t m log (set seats word (Some (doing.Idle (first_own t.shape word)))) (word + 1) = record {
       sights = with_at are.sights word (0, []);
       whole = length-set seats word (Some (doing.Idle (first_own t.shape word))) ∙ are.whole;
       inv = may_be_added t m (views_of are.sights seats) (views_of (with_at are.sights word (0, [])) (set seats word (Some (doing.Idle (first_own t.shape word))))) log word
           are.inv (no_view are.sights seats word empty) inside
           (λ k v is. seen_number (are.sights k) k word (seat_in seats k) v is (λ same. ap (seat_in seats) same ∙ empty))
           (views_move are.sights seats word (0, []) (doing.Idle (first_own t.shape word)) below);
-      going = all_go seats word (doing.Idle (first_own t.shape word)) below are.going tt;
+      going = all_are IsGoing seats word (doing.Idle (first_own t.shape word)) below are.going tt;
       drawn = λ j within. elim (cases_eq j word) [
         | inl here ↦
             let now : seat_in (set seats word (Some (doing.Idle (first_own t.shape word)))) j ≡ Some (doing.Idle (first_own t.shape word)) =
@@ -129,6 +138,14 @@ new_comes t m log seats word are inside =
               λ less none. (are.drawn j within).1 (omega (arith, less, differ)) (sym same ∙ none),
             )
       ];
+      rests = all_are HasResting seats word (doing.Idle (first_own t.shape word)) below are.rests tt;
+    } in
+    record {
+      are = all;
+      same = λ k s is. elim (cases_eq k word) [
+        | inl here ↦ let none : seat_in seats k ≡ None = ap (seat_in seats) here ∙ empty in absurd (cc)
+        | inr differ ↦ (with_other are.sights word (0, []) k differ, seat_other seats word k (Some (doing.Idle (first_own t.shape word))) differ ∙ is)
+      ];
     }
 
 -- where all numbers are drawn, one more makes no difference
@@ -139,31 +156,35 @@ none_left seats bound word past drawn k inside =
 -- the seats after a step on the words
 drawn_after : (t : Table) (s : Step) (words : List ℕ) (m' : Memory) (log : List Event) (seats : List (Option Seat)) → IsMade s (memory_of t.shape words) m'
     → word_at t.shape place.Draws words + 1 < 2 ^ 64
-    → AreSeats t m' log seats (word_at t.shape place.Draws words)
-    → AreSeats t m' log (with_drawn t.shape (drawn_in t.shape s (word_at t.shape (access_of s).place words)) seats) (m' place.Draws)
+    → (are : AreSeats t m' log seats (word_at t.shape place.Draws words))
+    → AreMore t m' log seats (with_drawn t.shape (drawn_in t.shape s (word_at t.shape (access_of s).place words)) seats) are.sights (m' place.Draws)
 drawn_after t s words m' log seats made small are = elim (draws_or_not s) [
   | inl is ↦
-      subst (λ (s : Step). AreSeats t m' log (with_drawn t.shape (drawn_in t.shape s (word_at t.shape (access_of s).place words)) seats) (m' place.Draws)) (sym is)
+      subst (λ (s : Step). AreMore t m' log seats (with_drawn t.shape (drawn_in t.shape s (word_at t.shape (access_of s).place words)) seats) are.sights (m' place.Draws)) (sym is)
       (draw (subst (λ (s : Step). IsMade s (memory_of t.shape words) m') is made))
   | inr not ↦
       let none = not.0 t.shape (word_at t.shape (access_of s).place words) in
-      subst (λ (n : Option ℕ). AreSeats t m' log (with_drawn t.shape n seats) (m' place.Draws)) (sym none)
-      (subst (AreSeats t m' log seats) (sym (draws_same s (memory_of t.shape words) m' made not.1)) are)
+      subst (λ (n : Option ℕ). AreMore t m' log seats (with_drawn t.shape n seats) are.sights (m' place.Draws)) (sym none)
+      (subst (AreMore t m' log seats seats are.sights) (sym (draws_same s (memory_of t.shape words) m' made not.1)) (record { are = are; same = λ k s is. (refl, is) }))
 ]
   where
     by_test : (b : Bool) → nat_lt (word_at t.shape place.Draws words) t.shape.seats ≡ b → m' place.Draws ≡ (word_at t.shape place.Draws words) + 1
-        → AreSeats t m' log (with_drawn t.shape (cond b (Some (word_at t.shape place.Draws words)) None) seats) (m' place.Draws)
-    by_test true is raised = subst (AreSeats t m' log (set seats (word_at t.shape place.Draws words) (Some (doing.Idle (first_own t.shape (word_at t.shape place.Draws words))))))
+        → AreMore t m' log seats (with_drawn t.shape (cond b (Some (word_at t.shape place.Draws words)) None) seats) are.sights (m' place.Draws)
+    by_test true is raised = subst (AreMore t m' log seats (set seats (word_at t.shape place.Draws words) (Some (doing.Idle (first_own t.shape (word_at t.shape place.Draws words))))) are.sights)
         (sym raised) (new_comes t m' log seats (word_at t.shape place.Draws words) are (ltb-true (word_at t.shape place.Draws words) t.shape.seats is))
-    by_test false is raised = subst (AreSeats t m' log seats) (sym raised) (record {
-      sights = are.sights;
-      whole = are.whole;
-      inv = are.inv;
-      going = are.going;
-      drawn = none_left seats t.shape.seats (word_at t.shape place.Draws words) (ltb-false (word_at t.shape place.Draws words) t.shape.seats is) are.drawn;
-    })
+    by_test false is raised =
+        let all : AreSeats t m' log seats (word_at t.shape place.Draws words + 1) = record {
+          sights = are.sights;
+          whole = are.whole;
+          inv = are.inv;
+          going = are.going;
+          drawn = none_left seats t.shape.seats (word_at t.shape place.Draws words) (ltb-false (word_at t.shape place.Draws words) t.shape.seats is) are.drawn;
+          rests = are.rests;
+        } in
+        subst (AreMore t m' log seats seats are.sights) (sym raised) (record { are = all; same = λ k s is. (refl, is) })
 
-    draw : IsMade step.Draw (memory_of t.shape words) m' → AreSeats t m' log (with_drawn t.shape (drawn_in t.shape step.Draw (word_at t.shape place.Draws words)) seats) (m' place.Draws)
+    draw : IsMade step.Draw (memory_of t.shape words) m' → AreMore t m' log seats (with_drawn t.shape (drawn_in t.shape step.Draw (word_at t.shape place.Draws words)) seats) are.sights
+        (m' place.Draws)
     draw made =
         let raised : m' place.Draws ≡ ((word_at t.shape place.Draws words) + 1) % 2 ^ 64 = made.here in
         by_test (nat_lt (word_at t.shape place.Draws words) t.shape.seats) refl (omega (arith, raised, small))
@@ -177,6 +198,14 @@ same_seed (machine.Begin b) (machine.Begin d) same = ap (λ (c : Caller). c.seed
 same_seed (machine.Poll p) (machine.Poll d) same = ap (λ (c : Caller). c.seed) same.0
 same_seed (machine.Sweep s) (machine.Sweep d) same = ap (λ q. q.caller.seed) same
 same_seed _ _ same = absurd same
+
+-- the nodes that a running call has passed
+passed_few : (t : Table) (m : Memory) (seat : ℕ → Option View) (log : List Event) → Inv t m seat log → (k : ℕ) (sight : ℕ × List ℕ) (x : Machine) →
+    seat k ≡ Some (view_at sight k (doing.Running x)) → passed_of x ≤ t.shape.slots
+passed_few t m seat log inv k sight (machine.Call d w g) is = passed_hold t m seat log inv k (view_at sight k (doing.Running (machine.Call d w g))) d is refl
+passed_few t m seat log inv k sight (machine.Begin b) is = omega arith
+passed_few t m seat log inv k sight (machine.Poll p) is = omega arith
+passed_few t m seat log inv k sight (machine.Sweep x) is = omega arith
 
 module _ (law : StepLaw) (fit : FitLaw) (c : Core) (core : IsCore c) (k : ℕ) (machine : Machine) (s : Step) (at : seat_in c.seats k ≡ Some (doing.Running machine))
     (planned : plan_of machine ≡ plan.Step s) where
@@ -195,10 +224,10 @@ module _ (law : StepLaw) (fit : FitLaw) (c : Core) (core : IsCore c) (k : ℕ) (
   abbrev sight : ℕ × List ℕ
   sight = (load_after s now.place (core.sights k).0, passed_after s (core.sights k).1)
 
-  seen : views_of core.sights c.seats k ≡ Some (view_at (core.sights k) k (doing.Running machine))
+  pub seen : views_of core.sights c.seats k ≡ Some (view_at (core.sights k) k (doing.Running machine))
   seen = view_is core.sights c.seats k (doing.Running machine) at
 
-  known : IsOfSeat c.table now k machine
+  pub known : IsOfSeat c.table now k machine
   known = (core.inv.knows k (view_at (core.sights k) k (doing.Running machine)) seen).0
 
   pub step_sound : IsSoundStep c.table.shape k s
@@ -213,15 +242,15 @@ module _ (law : StepLaw) (fit : FitLaw) (c : Core) (core : IsCore c) (k : ℕ) (
       let whole = core.seats in
       omega (arith, inside, whole)
 
-  made : IsMade s m m'
-  made = words_made c.table.shape s c.words core.sized step_sound.0
+  pub step_made : IsMade s m m'
+  step_made = words_made c.table.shape s c.words core.sized step_sound.0
 
-  found_is : found s m ≡ word
+  pub found_is : found s m ≡ word
   found_is = memory_at c.table.shape c.words (access_of s).place step_sound.0
 
   pub step_fits : FitsMachine machine word
   step_fits = subst (FitsMachine machine) found_is (fit c.table m m' (views_of core.sights c.seats) c.log k (view_at (core.sights k) k (doing.Running machine)) machine s core.inv seen refl
-      planned made)
+      planned step_made)
 
   small : word_at c.table.shape place.Draws c.words + 1 < 2 ^ 64
   small =
@@ -232,33 +261,48 @@ module _ (law : StepLaw) (fit : FitLaw) (c : Core) (core : IsCore c) (k : ℕ) (
   abbrev log' : List Event
   log' = c.log ++ events_of k (event_of machine word)
 
-  running : Inv c.table m' (views_of (with_at core.sights k sight) (set c.seats k (Some (doing.Running (got_of machine word))))) log'
-  running =
+  pub kept : MayTell (kind_of c.table) (past_of c.table.shape.min_level c.log) k (event_of machine word)
+      × Inv c.table m' (views_of (with_at core.sights k sight) (set c.seats k (Some (doing.Running (got_of machine word))))) log'
+  kept =
       let moved : Moves (views_of core.sights c.seats) (views_of (with_at core.sights k sight) (set c.seats k (Some (doing.Running (got_of machine word))))) k
       (view_after now (view_at (core.sights k) k (doing.Running machine)) machine s (found s m)) =
       subst (λ w. Moves (views_of core.sights c.seats) (views_of (with_at core.sights k sight) (set c.seats k (Some (doing.Running (got_of machine word))))) k
       (view_at sight k (doing.Running (got_of machine w))))
       (sym found_is) (views_move core.sights c.seats k sight (doing.Running (got_of machine word)) below) in
-      subst (λ w. Inv c.table m' (views_of (with_at core.sights k sight) (set c.seats k (Some (doing.Running (got_of machine word))))) (c.log ++ events_of k (event_of machine w))) found_is
+      subst (λ w. MayTell (kind_of c.table) (past_of c.table.shape.min_level c.log) k (event_of machine w)
+      × Inv c.table m' (views_of (with_at core.sights k sight) (set c.seats k (Some (doing.Running (got_of machine word))))) (c.log ++ events_of k (event_of machine w))) found_is
       (law c.table m m' (views_of core.sights c.seats) (views_of (with_at core.sights k sight) (set c.seats k (Some (doing.Running (got_of machine word))))) c.log k
-      (view_at (core.sights k) k (doing.Running machine)) machine s core.inv seen refl planned made moved).1
+      (view_at (core.sights k) k (doing.Running machine)) machine s core.inv seen refl planned step_made moved)
+
+  abbrev pub running : Inv c.table m' (views_of (with_at core.sights k sight) (set c.seats k (Some (doing.Running (got_of machine word))))) log'
+  running = kept.1
+
+  pub moves : Moves (views_of core.sights c.seats) (views_of (with_at core.sights k sight) (set c.seats k (Some (doing.Running (got_of machine word))))) k
+      (view_at sight k (doing.Running (got_of machine word)))
+  moves = views_move core.sights c.seats k sight (doing.Running (got_of machine word)) below
 
   -- with its machine at rest
-  rested : AreSeats c.table m' log' (set c.seats k (Some (seat_after (got_of machine word)))) (word_at c.table.shape place.Draws c.words)
+  abbrev rested : AreSeats c.table m' log' (set c.seats k (Some (seat_after (got_of machine word)))) (word_at c.table.shape place.Draws c.words)
   rested = record {
     sights = with_at core.sights k sight;
     whole = length-set c.seats k (Some (seat_after (got_of machine word))) ∙ core.seats;
     inv = comes_to_rest c.table m' log' (with_at core.sights k sight) c.seats k (got_of machine word) below running;
-    going = all_go c.seats k (seat_after (got_of machine word)) below core.going (goes_after (got_of machine word));
+    going = all_are IsGoing c.seats k (seat_after (got_of machine word)) below core.going (goes_after (got_of machine word));
     drawn = drawn_still c.table.shape.seats c.seats (word_at c.table.shape place.Draws c.words) k (doing.Running machine) (seat_after (got_of machine word)) below at core.drawn;
+    rests = all_are HasResting c.seats k (seat_after (got_of machine word)) below core.rests
+        (rests_after m' (past_of c.table.shape.min_level log') running.flow k sight.0 sight.1 (got_of machine word)
+        (running.knows k (view_at sight k (doing.Running (got_of machine word))) moves.own).1 (rests_on machine word (core.rests k (doing.Running machine) at)));
   }
 
-  seats_after : AreSeats c.table m' log' (after_step c k machine s word).seats (m' place.Draws)
-  seats_after = drawn_after c.table s c.words m' log' (set c.seats k (Some (seat_after (got_of machine word)))) made small rested
+  more : AreMore c.table m' log' (set c.seats k (Some (seat_after (got_of machine word)))) (after_step c k machine s word).seats rested.sights (m' place.Draws)
+  more = drawn_after c.table s c.words m' log' (set c.seats k (Some (seat_after (got_of machine word)))) step_made small rested
 
-  moves : Moves (views_of core.sights c.seats) (views_of (with_at core.sights k sight) (set c.seats k (Some (doing.Running (got_of machine word))))) k
-      (view_at sight k (doing.Running (got_of machine word)))
-  moves = views_move core.sights c.seats k sight (doing.Running (got_of machine word)) below
+  pub got_sound : IsSoundMachine (got_of machine word)
+  got_sound = (running.knows k (view_at sight k (doing.Running (got_of machine word))) moves.own).0.sound
+
+  -- it has passed no more nodes than there are slots
+  pub got_passed : passed_of (got_of machine word) ≤ c.table.shape.slots
+  got_passed = passed_few c.table m' (views_of (with_at core.sights k sight) (set c.seats k (Some (doing.Running (got_of machine word))))) log' running k sight (got_of machine word) moves.own
 
   -- the seed stays
   seed_after : c.seed ≡ (now_of c.table.shape.min_level log').seed
@@ -267,17 +311,30 @@ module _ (law : StepLaw) (fit : FitLaw) (c : Core) (core : IsCore c) (k : ℕ) (
       (running.knows k (view_at sight k (doing.Running (got_of machine word))) (moves.own)).0 in
       core.seed ∙ sym known.seed ∙ sym (same_seed machine (got_of machine word) (same_law machine word)) ∙ of.seed
 
-  -- the state after the step
-  pub stepped_core : IsCore (after_step c k machine s word)
-  stepped_core = record {
-    sights = seats_after.sights;
-    sized = length-set c.words (index_of c.table.shape (access_of s).place) (word_after (access_of s).deed word) ∙ core.sized;
-    seats = seats_after.whole;
-    seed = seed_after;
-    inv = seats_after.inv;
-    going = seats_after.going;
-    drawn = seats_after.drawn;
+  -- the state after the step, and what is left of the others
+  pub stepped_after : IsAfter c (after_step c k machine s word) core k sight (seat_after (got_of machine word))
+  stepped_after = record {
+    core = record {
+      sights = more.are.sights;
+      sized = length-set c.words (index_of c.table.shape (access_of s).place) (word_after (access_of s).deed word) ∙ core.sized;
+      seats = more.are.whole;
+      seed = seed_after;
+      inv = more.are.inv;
+      going = more.are.going;
+      drawn = more.are.drawn;
+      told = told_more c.table c.log k (event_of machine word) core.told kept.0;
+      rests = more.are.rests;
+    };
+    own =
+        let now = more.same k (seat_after (got_of machine word)) (seat_same c.seats k (Some (seat_after (got_of machine word))) below) in
+        (now.0 ∙ with_here core.sights k sight k refl, now.1);
+    other = λ i u differ is.
+        let now = more.same i u (seat_other c.seats k i (Some (seat_after (got_of machine word))) differ ∙ is) in
+        (now.0 ∙ with_other core.sights k sight i differ, now.1);
   }
+
+  pub stepped_core : IsCore (after_step c k machine s word)
+  stepped_core = stepped_after.core
 
   -- what the step came to
   pub stepped_as_said : (said : Stepped) (new : Core) → said ≡ stepped_as (plan_of (got_of machine word)) → new ≡ after_step c k machine s word → StepsAs c k (seat_in c.seats k) said new

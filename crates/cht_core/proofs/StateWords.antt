@@ -96,7 +96,7 @@ inside_tested shape (place.Meta slot) within = lt-ltb slot shape.slots within
 inside_tested shape (place.Text slot at) within = both (nat_lt slot shape.slots) (nat_lt at shape.text_words) (lt-ltb slot shape.slots within.0) (lt-ltb at shape.text_words within.1)
 inside_tested shape _ within = refl
 
-tested_inside : (shape : Shape) (p : Place) → is_inside shape p ≡ true → IsInside shape p
+pub tested_inside : (shape : Shape) (p : Place) → is_inside shape p ≡ true → IsInside shape p
 tested_inside shape (place.Section number) is = ltb-true number shape.seats is
 tested_inside shape (place.Head row bucket) is =
     let row_is = first_true (nat_le shape.min_level row && nat_le row shape.max_level) (nat_lt bucket (2 ^ row)) is in (
@@ -119,7 +119,7 @@ tested_inside shape _ is = tt
 pub memory_at : (shape : Shape) (words : List ℕ) (p : Place) → IsInside shape p → memory_of shape words p ≡ word_at shape p words
 memory_at shape words p within = ap (λ b. cond b (word_at shape p words) 0) (inside_tested shape p within)
 
-memory_out : (shape : Shape) (words : List ℕ) (p : Place) → is_inside shape p ≡ false → memory_of shape words p ≡ 0
+pub memory_out : (shape : Shape) (words : List ℕ) (p : Place) → is_inside shape p ≡ false → memory_of shape words p ≡ 0
 memory_out shape words p out = ap (λ b. cond b (word_at shape p words) 0) out
 
 -- a step on the words is one on the memory

@@ -1,6 +1,7 @@
 -- What any call has found out of its window so far, what it knows as it finds a word, and what causes its answer.
-use Rattle.std.specs.Prelude.{◌≡◌, ℕ, false, List, IfSome}
+use Rattle.std.specs.Prelude.{◌≡◌, ℕ, false, List, Some, IfSome}
 use Rattle.intern_log.specs.declared.event.Event.{Event}
+use Rattle.intern_log.specs.Now.{owner_of}
 use Rattle.atomic_step.specs.declared.answer.Answer.{Answer}
 use Rattle.atomic_step.specs.declared.answer.Answer.TheVariants as answer
 use Rattle.atomic_step.specs.declared.count.Change.TheVariants as change
@@ -12,7 +13,7 @@ use Rattle.call_machine.specs.declared.machine.Own.{Own}
 use Rattle.call_machine.specs.Begin.{left_of}
 use Rattle.call_machine.specs.Sought.{is_too_long}
 use Rattle.cht_core.specs.declared.table.Table.{Table}
-use Rattle.cht_core.specs.Causes.{IsUnseen, IsSpent, BeginEnds, BeginCaused, BeginHears, SweepCaused, PollEnds, PollCaused, PollHears, IsResting}
+use Rattle.cht_core.specs.Causes.{now_in, IsUnseen, IsSpent, BeginEnds, BeginCaused, BeginHears, SweepCaused, PollEnds, PollCaused, PollHears, IsResting}
 use Rattle.cht_core.specs.CauseCalls.{Way, Walks, Changes, Reads, Splits, WasMade, CallEnds, CallCaused, CallHears, Owns, Did}
 use Rattle.cht_core.specs.Flow.{Flow}
 use Rattle.cht_core.specs.Past.{Past}
@@ -42,15 +43,16 @@ Hears t p f i load log (machine.Begin b) word = BeginHears p i b.stage
 Hears t p f i load log (machine.Poll q) word = PollHears t p f i load log q.work q.answer word
 Hears t p f i load log (machine.Sweep s) word = Unit {0}
 
--- what a call needs as it begins: a text that is looked up is not too long, a handle was created, and an unfinished work rests
-abbrev pub MayCause : Table → List Event → Own → Call → Type 0
-MayCause t seen own (call.Lookup text) = is_too_long t.shape text.now ≡ false
-MayCause t seen own (call.TextOf h) = WasMade t seen h
-MayCause t seen own (call.Drop h) = WasMade t seen h
-MayCause t seen own (call.Permanent h) = WasMade t seen h
-MayCause t seen own (call.Kill h) = WasMade t seen h
-MayCause t seen own call.PollWork = IfSome own.work IsResting
-MayCause t seen own _ = Unit {0}
+-- what a call needs as it begins: a text that is looked up is not too long, a handle was created, and an unfinished work rests and its seat
+-- has the resize lock
+abbrev pub MayCause : Table → ℕ → List Event → Own → Call → Type 0
+MayCause t i seen own (call.Lookup text) = is_too_long t.shape text.now ≡ false
+MayCause t i seen own (call.TextOf h) = WasMade t seen h
+MayCause t i seen own (call.Drop h) = WasMade t seen h
+MayCause t i seen own (call.Permanent h) = WasMade t seen h
+MayCause t i seen own (call.Kill h) = WasMade t seen h
+MayCause t i seen own call.PollWork = IfSome own.work (λ w. IsResting w × (owner_of (now_in t seen).resizing ≡ Some i))
+MayCause t i seen own _ = Unit {0}
 
 -- why a sweep answers so: as the beginning of a work it may be refused
 abbrev pub SweepEnds : Table → List Event → List Event → Answer → Type 0

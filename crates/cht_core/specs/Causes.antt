@@ -1,11 +1,12 @@
 -- What a call has found out of its window so far, and why it answers as it does.
-use Rattle.std.specs.Prelude.{◌≡◌, ◌≢◌, ℕ, ◌+◌, ◌*◌, ◌/◌, ◌^◌, ◌<◌, ◌≤◌, ◌⊎◌, List, [], length, Option, Some, None}
+use Rattle.std.specs.Prelude.{◌≡◌, ◌≢◌, ℕ, ◌+◌, ◌*◌, ◌^◌, ◌<◌, ◌≤◌, ◌⊎◌, List, [], length, Option, Some, None}
 use Rattle.std.specs.List.{filter}
 use Rattle.intern_log.specs.declared.event.Event.{Event}
 use Rattle.intern_log.specs.declared.event.What.{What}
-use Rattle.intern_log.specs.CauseEvents.{IsCreateUnlinkOrLockOn}
+use Rattle.intern_log.specs.CauseEvents.{IsCreateOn, IsCreateUnlinkOrLockOn}
 use Rattle.intern_log.specs.Now.{Now, OpenSection, owner_of, now_of}
 use Rattle.intern_log.specs.Own.{is_visible}
+use Rattle.intern_log.specs.SlotBuckets.{slot_bucket}
 use Rattle.atomic_step.specs.declared.answer.Answer.{Answer}
 use Rattle.atomic_step.specs.declared.answer.Answer.TheVariants as answer
 use Rattle.atomic_step.specs.declared.plan.Plan.{Plan}
@@ -18,6 +19,8 @@ use Rattle.call_machine.specs.declared.clean.CleanAlong.{CleanAlong}
 use Rattle.call_machine.specs.declared.clean.CleanStage.{CleanStage}
 use Rattle.call_machine.specs.declared.clean.CleanStage.TheVariants as clean
 use Rattle.call_machine.specs.declared.lock.LockStage.TheVariants as lock
+use Rattle.call_machine.specs.declared.pass.Cleaning.{Cleaning}
+use Rattle.call_machine.specs.declared.pass.PassStage.TheVariants as pass
 use Rattle.call_machine.specs.declared.sweep.SweepStage.{SweepStage}
 use Rattle.call_machine.specs.declared.sweep.SweepStage.TheVariants as sweep
 use Rattle.cht_core.specs.declared.table.Table.{Table}
@@ -26,6 +29,7 @@ use Rattle.call_machine.specs.declared.work.Work.TheVariants as work
 use Rattle.cht_core.specs.Flow.{Flow, IsUsed}
 use Rattle.cht_core.specs.Past.{Past}
 use Rattle.cht_core.specs.Windows.{Somewhere, Another, AnotherSince, whats_by}
+use Rattle.cht_core.specs.Unlinks.{unlinks_by, is_given}
 use Rattle.cht_core.specs.View.{load_after}
 use Rattle.cht_core.specs.WordSays.{WordSays}
 
@@ -97,6 +101,10 @@ IsLockedByOther t i row bucket log = (k : ℕ) × ((now_in t log).lock row bucke
 abbrev pub IsOnBucket : Table → ℕ → ℕ → List Event → What → Type 0
 IsOnBucket t row bucket log e = IsCreateUnlinkOrLockOn (now_in t log) row bucket e
 
+-- the event is a Create on the bucket
+abbrev pub IsCreateAt : Table → ℕ → ℕ → List Event → What → Type 0
+IsCreateAt t row bucket log e = IsCreateOn (now_in t log) row bucket e
+
 -- the word of a head is still the one that was loaded at a place, or since then another seat had an event on the bucket
 abbrev pub HeadSays : Table → ℕ → ℕ → ℕ → ℕ → ℕ → List Event → ℕ → Type 0
 HeadSays t i row bucket load head log word = (word ≡ head) ⊎ AnotherSince i (IsOnBucket t row bucket) load log
@@ -109,41 +117,71 @@ loaded_at (plan.Answered a) now load = load
 -- POLLS OF A CLEAN
 
 -- why a poll of a clean answers so: the section is open with a counter below the raised one, or that is too great for a further grace;
--- the bucket is locked by another seat, or had an event of another seat, or the poll has made its full passes over it
+-- the bucket is locked by another seat, or had an event of another seat
 abbrev pub CleanEnds : Table → ℕ → List Event → List Event → CleanAlong → Answer → Type 0
 CleanEnds t i seen window w (answer.PendingSeat number) = Somewhere (IsOpenBelow t number w.grace.raised) seen window ⊎ ((number ≡ 0) × (2 ^ 63 ≤ w.grace.raised))
-CleanEnds t i seen window w (answer.PendingBucket row bucket) =
-    Somewhere (IsLockedByOther t i row bucket) seen window ⊎ Another i (IsOnBucket t row bucket) seen window ⊎ (t.shape.slots / 256 + 1 ≤ w.full_passes)
+CleanEnds t i seen window w (answer.PendingBucket row bucket) = Somewhere (IsLockedByOther t i row bucket) seen window ⊎ Another i (IsOnBucket t row bucket) seen window
 CleanEnds t i seen window w _ = Unit {0}
 
 abbrev pub PollEnds : Table → ℕ → List Event → List Event → Work → Answer → Type 0
 PollEnds t i seen window (work.Clean c) a = CleanEnds t i seen window c.along a
 PollEnds t i seen window (work.Resize r) a = ⊥
 
--- before it answers it has loaded the head that it locks within its window
+-- the seat had the resize lock as the window began, and has not given it back in it
+abbrev pub KeepsResizeLock : Table → ℕ → List Event → List Event → Type 0
+KeepsResizeLock t i seen window = (owner_of (now_in t seen).resizing ≡ Some i) × (filter is_given (whats_by i window) ≡ [])
+
+-- how many slots of a bucket the seat unlinked in the window
+abbrev pub own_unlinks : Table → ℕ → ℕ → ℕ → List Event → List Event → ℕ
+own_unlinks t i row bucket seen window = unlinks_by t i row bucket (now_in t seen) window
+
+-- how many slots that wait the pass under way has unlinked
+abbrev pub in_pass : Cleaning → CleanStage → ℕ
+in_pass c (clean.Pass s) = c.pass_waiting
+in_pass c clean.UnlockHead = c.pass_waiting
+in_pass c _ = 0
+
+-- in the window the seat unlinked 256 slots of the bucket for each full pass over it, and so many beside them
+abbrev pub HasMade : Table → ℕ → List Event → List Event → CleanAlong → ℕ → Type 0
+HasMade t i seen window w beside = 256 * w.full_passes + beside ≤ own_unlinks t i w.cleaning.row w.cleaning.bucket seen window
+
+-- beside its full passes it is the pass under way that unlinked; a clean that has no row yet has made no pass
+abbrev pub HasUnlinked : Table → ℕ → List Event → List Event → CleanAlong → CleanStage → Type 0
+HasUnlinked t i seen window w clean.LoadLevel = w.full_passes ≡ 0
+HasUnlinked t i seen window w s = HasMade t i seen window w (in_pass w.cleaning s)
+
+-- the head that is about to be locked was loaded within the window
+abbrev pub HeadLoaded : List Event → ℕ → CleanStage → Type 0
+HeadLoaded seen load (clean.Lock (lock.LockHead head)) = length seen ≤ load
+HeadLoaded seen load _ = Unit {0}
+
+-- what a poll of a clean has found out, and why it answers
 abbrev pub CleanCaused : Table → ℕ → List Event → List Event → ℕ → CleanAlong → CleanStage → Option Answer → Type 0
 CleanCaused t i seen window load w s (Some a) = CleanEnds t i seen window w a
-CleanCaused t i seen window load w (clean.Lock (lock.LockHead head)) None = length seen ≤ load
-CleanCaused t i seen window load w _ None = Unit {0}
+CleanCaused t i seen window load w s None = KeepsResizeLock t i seen window × HasUnlinked t i seen window w s × HeadLoaded seen load s
 
 -- the works of a table of one level are cleans
 abbrev pub PollCaused : Table → ℕ → List Event → List Event → ℕ → Work → Option Answer → Type 0
 PollCaused t i seen window load (work.Clean c) a = CleanCaused t i seen window load c.along c.stage a
 PollCaused t i seen window load (work.Resize r) a = ⊥
 
--- what the seat knows as it finds a word: it has not locked the bucket that it is about to lock, to which callers come
+-- what the seat knows as it finds a word: it has not locked the bucket that it is about to lock, to which callers come; and the slot that it
+-- unlinks is in that bucket
 abbrev pub CleanHears : Table → Past → Flow → ℕ → ℕ → List Event → CleanAlong → CleanStage → ℕ → Type 0
 CleanHears t p f i load log w (clean.Lock lock.LoadHead) word = IsUsed p.now f w.cleaning.row w.cleaning.bucket × ¬ (p.now.lock w.cleaning.row w.cleaning.bucket ≡ Some i)
 CleanHears t p f i load log w (clean.Lock (lock.LockHead head)) word = HeadSays t i w.cleaning.row w.cleaning.bucket load head log word
+CleanHears t p f i load log w (clean.Pass (pass.Unlink s g next)) word = slot_bucket p.now w.cleaning.row s ≡ Some w.cleaning.bucket
 CleanHears t p f i load log w _ word = Unit {0}
 
 abbrev pub PollHears : Table → Past → Flow → ℕ → ℕ → List Event → Work → Option Answer → ℕ → Type 0
 PollHears t p f i load log (work.Clean c) None word = CleanHears t p f i load log c.along c.stage word
 PollHears t p f i load log _ _ word = Unit {0}
 
--- between its polls a work is not about to exchange a head
+-- between its polls a work has no bucket locked, and is not about to exchange a head
 abbrev pub IsRestingAt : CleanStage → Type 0
 IsRestingAt (clean.Lock (lock.LockHead head)) = ⊥
+IsRestingAt (clean.Pass s) = ⊥
+IsRestingAt clean.UnlockHead = ⊥
 IsRestingAt _ = Unit {0}
 
 abbrev pub IsResting : Work → Type 0

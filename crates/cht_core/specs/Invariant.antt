@@ -17,6 +17,7 @@ use Rattle.call_machine.specs.Machine.{plan_of, event_of}
 use Rattle.cht_core.specs.declared.seat.Seat.TheVariants as doing
 use Rattle.cht_core.specs.declared.table.Table.{Table}
 use Rattle.cht_core.specs.Bounds.{Bounds}
+use Rattle.cht_core.specs.Edges.{UnlinkedLead}
 use Rattle.cht_core.specs.Flow.{Flow}
 use Rattle.cht_core.specs.Memory.{Memory, IsMade, found}
 use Rattle.cht_core.specs.Owes.{IsAllOf}
@@ -45,6 +46,7 @@ pub record Inv (t : Table) (m : Memory) (seat : ℕ → Option View) (log : List
   pub numbers : Numbers t seat log
   pub holds : Holds seat log flow.holds
   pub lawful : IsShort log → IsLawful (kind_of t) log
+  pub edges : UnlinkedLead t m log
 
 -- one seat is at something else, and no other
 pub record Moves (seat seat' : ℕ → Option View) (i : ℕ) (v : View) : Type 0 where

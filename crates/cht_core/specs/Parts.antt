@@ -51,6 +51,10 @@ pub record EdgesLead (m : Memory) (n : Now) : Type 0 where
   pub of_links : (s next : ℕ) → IsLinked n s → links m s ≡ Some next → IsLinked n next
   pub of_heads : (bucket first : ℕ) → bucket < 2 ^ n.level → first_of (m (place.Head n.level bucket)) ≡ Some first → IsLinked n first
 
+-- a slot to which the link of an unlinked slot leads, and which is itself unlinked, was unlinked after it
+abbrev pub UnlinkedLeadLater : Memory → Now → Type 0
+UnlinkedLeadLater m n = (s next i j at by : ℕ) → n.slot s ≡ Unlinked i at → links m s ≡ Some next → n.slot next ≡ Unlinked j by → at < by
+
 -- a section word without its lowest bit is at most the counter
 abbrev pub SectionsAreCounted : Memory → Type 0
 SectionsAreCounted m = (k : ℕ) → m (place.Section k) / 2 * 2 ≤ m place.Counter

@@ -1,7 +1,7 @@
 -- A whole table as plain data, and what its calls come to.
-use Rattle.std.specs.Prelude.{◌≡◌, ◌≢◌, ℕ, ◌-◌, ◌%◌, ◌^◌, ◌<◌, ◌≤◌, ◌↔◌, ◌⊎◌, nat_lt, if◌then◌else◌, List, [], ◌∷◌, ◌++◌, length, replicate, slice_index_or, set, Option, Some, None}
+use Rattle.std.specs.Prelude.{◌≡◌, ◌≢◌, ℕ, ◌+◌, ◌-◌, ◌%◌, ◌^◌, ◌<◌, ◌≤◌, ◌↔◌, ◌⊎◌, nat_lt, if◌then◌else◌, List, [], ◌∷◌, ◌++◌, length, replicate, slice_index_or, set, Option, Some, None, IfSome}
 use Rattle.intern_log.specs.declared.event.Event.{Event}
-use Rattle.intern_log.specs.Now.{now_of}
+use Rattle.intern_log.specs.Now.{Now, now_of}
 use Rattle.table_shape.specs.declared.shape.Shape.{Shape}
 use Rattle.table_shape.specs.declared.place.Place.TheVariants as place
 use Rattle.table_shape.specs.Place.{index_of}
@@ -16,9 +16,12 @@ use Rattle.atomic_step.specs.Step.{access_of}
 use Rattle.atomic_step.specs.Table.{words_after, word_at}
 use Rattle.call_machine.specs.declared.call.Call.{Call}
 use Rattle.call_machine.specs.declared.machine.Machine.{Machine}
+use Rattle.call_machine.specs.declared.machine.Machine.TheVariants as machine
 use Rattle.call_machine.specs.declared.machine.Own.{Own}
 use Rattle.call_machine.specs.Machine.{started, plan_of, got_of, event_of, own_of}
 use Rattle.call_machine.specs.SoundMachine.{MayStart}
+use Rattle.cht_core.specs.declared.rehash.Rehashing.{Rehashing}
+use Rattle.cht_core.specs.declared.rehash.Rehashing.TheVariants as rehashing
 use Rattle.cht_core.specs.declared.seat.Seat.{Seat}
 use Rattle.cht_core.specs.declared.seat.Seat.TheVariants as doing
 use Rattle.cht_core.specs.declared.state.MakeFault.{MakeFault}
@@ -29,9 +32,13 @@ use Rattle.cht_core.specs.declared.state.Stepped.{Stepped}
 use Rattle.cht_core.specs.declared.state.Stepped.TheVariants as stepped
 use Rattle.cht_core.specs.declared.table.Table.{Table}
 use Rattle.cht_core.specs.Begins.{MeetsLog, IsOfOneLevel, first_own}
+use Rattle.cht_core.specs.Causes.{IsResting, Rests}
 use Rattle.cht_core.specs.Invariant.{Inv, events_of}
 use Rattle.cht_core.specs.Memory.{memory_of}
+use Rattle.cht_core.specs.Past.{by}
+use Rattle.cht_core.specs.Rehash.{IsFree, HasNoDead, IsRehashed, seeds, by_next_seed}
 use Rattle.cht_core.specs.View.{View}
+use Rattle.cht_core.specs.Windows.{IsTold}
 
 -- a table, the seed of its hash, its words, what each seat number is at, and its log
 pub record Core : Type 0 where
@@ -58,6 +65,13 @@ abbrev pub IsGoing : Seat → Type 0
 IsGoing (doing.Idle own) = Unit {0}
 IsGoing (doing.Running m) = (s : Step) × (plan_of m ≡ plan.Step s)
 
+-- the unfinished work of a seat rests between its polls
+abbrev pub HasResting : Seat → Type 0
+HasResting (doing.Idle own) = IfSome own.work IsResting
+HasResting (doing.Running (machine.Call c w g)) = IfSome w IsResting
+HasResting (doing.Running (machine.Poll p)) = Rests p.work p.answer
+HasResting (doing.Running m) = Unit {0}
+
 pub record IsCore (c : Core) : Type 0 where
   pub sights : ℕ → ℕ × List ℕ
   pub sized : length c.words ≡ words_of c.table.shape
@@ -67,6 +81,9 @@ pub record IsCore (c : Core) : Type 0 where
   pub going : (k : ℕ) (s : Seat) → seat_in c.seats k ≡ Some s → IsGoing s
   -- the drawn numbers are those below the first word
   pub drawn : (k : ℕ) → k < c.table.shape.seats → (seat_in c.seats k ≢ None) ↔ (k < word_at c.table.shape place.Draws c.words)
+  -- each event may be told after those before it
+  pub told : IsTold c.table c.log
+  pub rests : (k : ℕ) (s : Seat) → seat_in c.seats k ≡ Some s → HasResting s
 
 -- a table that has just been made
 abbrev pub opening_words : Table → List ℕ
@@ -178,3 +195,25 @@ pub record Steps (c : Core) (k : ℕ) (m : Machine) (said : Stepped) (new : Core
 abbrev pub StepsAs : Core → ℕ → Option Seat → Stepped → Core → Type 0
 StepsAs c k (Some (doing.Running m)) said new = Steps c k m said new
 StepsAs c k _ said new = (said ≡ stepped.Idle) × (new ≡ c)
+
+-- what the log of a state says at its end
+abbrev pub now_at : Core → Now
+now_at c = now_of c.table.shape.min_level c.log
+
+-- a state may be made anew: nobody works, no slot is linked and dead, and a seed is left
+pub record CanRehash (c : Core) : Type 0 where
+  pub seats : (k : ℕ) (s : Seat) → seat_in c.seats k ≡ Some s → IsFree s
+  pub dead : HasNoDead (now_at c)
+  pub seed : c.seed < 2
+
+pub record Rehashed (c new : Core) : Type 0 where
+  pub can : CanRehash c
+  pub sized : length new.words ≡ length c.words
+  pub words : IsRehashed (memory_of c.table.shape c.words) (memory_of c.table.shape new.words) (by_next_seed (now_at c))
+  pub state : new ≡ record c { seed = c.seed + 1; words = new.words; log = c.log ++ by 0 (seeds (now_at c)) ∷ [] }
+
+-- it is refused exactly where it may not be made anew
+abbrev pub RehashesAs : Core → Rehashing → Core → Type 0
+RehashesAs c rehashing.Done new = Rehashed c new
+RehashesAs c rehashing.Refused new = (new ≡ c) × ¬ (CanRehash c)
+RehashesAs c rehashing.OutOfMemory new = (new ≡ c) × CanRehash c

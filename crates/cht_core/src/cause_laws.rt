@@ -1,27 +1,36 @@
 //! Laws of the causes of answers: what a call has found out of what was logged since it began, and why it answers as it
 //! does. The log is `seen`, what was there as the call began, and then `window`, what came since.
 //! Each function does nothing: its contract is the law.
-ghost use Rattle.std.specs.Prelude.{◌≡◌, ◌≢◌, ℕ, ◌<◌, ◌^◌, true, List, [], ◌++◌, length, Option, Some, None, IfSome};
+ghost use Rattle.std.specs.Prelude.{◌≡◌, ◌≢◌, ℕ, ◌+◌, ◌*◌, ◌/◌, ◌^◌, ◌<◌, ◌≤◌, ◌⊎◌, true, List, [], ◌∷◌, ◌++◌, length, Option, Some, None, IfSome};
+ghost use Rattle.table_shape.specs.declared.shape.Shape.{Shape};
 ghost use Rattle.table_shape.specs.Shape.{IsSound};
 ghost use Rattle.intern_log.specs.declared.event.Event.{Event};
 ghost use Rattle.intern_log.specs.declared.event.Handle.{Handle};
 ghost use Rattle.intern_log.specs.declared.event.Kind.TheVariants.{Counted};
 ghost use Rattle.intern_log.specs.declared.event.What.{What};
+ghost use Rattle.intern_log.specs.declared.event.What.TheVariants as what;
 ghost use Rattle.intern_log.specs.Log.{map_of, IsLegal};
+ghost use Rattle.intern_log.specs.Now.{owner_of};
+ghost use Rattle.intern_log.specs.SlotBuckets.{slot_bucket, IsUnlinkOn};
 ghost use Rattle.intern_log.specs.TextMap.{entry_of, IsLive};
 ghost use Rattle.atomic_step.specs.declared.answer.Answer.{Answer};
 ghost use Rattle.atomic_step.specs.declared.plan.Plan.TheVariants as plan;
 ghost use Rattle.atomic_step.specs.declared.step.Step.{Step};
 ghost use Rattle.atomic_step.specs.Event as steps;
+ghost use Rattle.call_machine.specs.declared.begin.Left.TheVariants as left;
 ghost use Rattle.call_machine.specs.declared.call.Call.{Call};
+ghost use Rattle.call_machine.specs.declared.caller.Caller.{Caller};
+ghost use Rattle.call_machine.specs.declared.clean.Clean.{Clean};
 ghost use Rattle.call_machine.specs.declared.machine.Machine.{Machine};
+ghost use Rattle.call_machine.specs.declared.machine.Machine.TheVariants as machine;
 ghost use Rattle.call_machine.specs.declared.machine.Own.{Own};
 ghost use Rattle.call_machine.specs.declared.poll.Polling.{Polling};
 ghost use Rattle.call_machine.specs.declared.work.Work.{Work};
+ghost use Rattle.call_machine.specs.declared.work.Work.TheVariants as work;
 ghost use Rattle.call_machine.specs.Machine.{started, plan_of, got_of, event_of, shape_of};
 ghost use Rattle.call_machine.specs.Poll.{poll_got};
 ghost use Rattle.call_machine.specs.Sought.{is_too_long};
-ghost use Rattle.call_machine.specs.Work.{resumes};
+ghost use Rattle.call_machine.specs.Work.{begun_work, resumes};
 ghost use Rattle.call_machine.specs.SoundMachine.{IsSoundOwn, MayStart, IsSoundMachine, FitsMachine};
 ghost use Rattle.cht_core.specs.declared.seat.Seat.TheVariants as doing;
 ghost use Rattle.cht_core.specs.declared.table.Table.{Table};
@@ -29,23 +38,23 @@ ghost use Rattle.cht_core.specs.Backs.{Backs};
 ghost use Rattle.cht_core.specs.Begins.{IsHeld};
 ghost use Rattle.cht_core.specs.Caused.{way_of, Caused, Hears, MayCause, Cause};
 ghost use Rattle.cht_core.specs.CauseCalls.{Way, WasMade};
-ghost use Rattle.cht_core.specs.Causes.{now_in, PlanSays, loaded_at, IsResting, Rests};
+ghost use Rattle.cht_core.specs.Causes.{now_in, PlanSays, loaded_at, IsCreateAt, own_unlinks, IsResting, Rests};
 ghost use Rattle.cht_core.specs.Flow.{Flow};
 ghost use Rattle.cht_core.specs.Invariant.{Inv, events_of};
 ghost use Rattle.cht_core.specs.HeadKept.{Headed};
 ghost use Rattle.cht_core.specs.Memory.{Memory, IsMade, found};
 ghost use Rattle.cht_core.specs.Owes.{Owes};
-ghost use Rattle.cht_core.specs.Past.{Past, past_of, kind_of, MayTell};
+ghost use Rattle.cht_core.specs.Past.{Past, by, past_of, kind_of, MayTell};
 ghost use Rattle.cht_core.specs.TableState.{IsTable};
 ghost use Rattle.cht_core.specs.Tidy.{IsTidy};
 ghost use Rattle.cht_core.specs.View.{View, IsOfSeat, KnowsMachine, seed_in};
-ghost use Rattle.cht_core.specs.Windows.{IsTold, whats_by};
+ghost use Rattle.cht_core.specs.Windows.{Another, IsTold, whats_by};
 
 /// A call that begins has found out nothing yet, and its window is empty.
 #[tactic(auto, using(crate::proofs::CauseAnswers::caused_begins))]
 pub fn a_call_begins_with_nothing_found_out()
     ensures law { (t : Table) (i : ℕ) (seen : List Event) (load seed : ℕ) (own : Own) (c : Call) → IsSound t.shape → seed < 2 ^ 32 → IsSoundOwn t.shape own →
-        MayStart t.kind t.shape own c → MayCause t seen own c → Caused t i (way_of c) seen [] load (started t.kind t.shape seed own c) }
+        MayStart t.kind t.shape own c → MayCause t i seen own c → Caused t i (way_of c) seen [] load (started t.kind t.shape seed own c) }
 {}
 
 /// What a call has found out stays so as events of other seats come to its window.
@@ -104,9 +113,11 @@ pub fn a_head_is_what_was_loaded_or_another_changed_it()
         Headed t m' i (loaded_at (plan_of machine) now load) (log ++ more) (got_of machine (found s m)) }
 {}
 
-/// A work rests between its polls: a poll that begins with one leaves one where it answers.
-#[tactic(auto, using(crate::proofs::CauseRests::poll_begins_resting, crate::proofs::CauseRests::poll_rests))]
+/// A work rests between its polls: a clean that was begun rests, and a poll that begins with a work that rests leaves one where it
+/// answers.
+#[tactic(auto, using(crate::proofs::CauseRests::begun_rests, crate::proofs::CauseRests::poll_begins_resting, crate::proofs::CauseRests::poll_rests))]
 pub fn works_rest_between_their_polls()
+    ensures begun { (shape : Shape) (w : Work) → begun_work shape left.Clean ≡ Some w → IsResting w }
     ensures begins { (w : Work) → IsResting w → Rests (resumes w).0 (resumes w).1 }
     ensures steps { (p : Polling) (word : ℕ) → Rests p.work p.answer → Rests (poll_got p word).work (poll_got p word).answer }
 {}
@@ -121,6 +132,34 @@ pub fn live_handles_were_created()
 pub fn held_handles_were_created()
     ensures law { (t : Table) (m : Memory) (seat : ℕ → Option View) (log : List Event) (i : ℕ) (v : View) (h : Handle) → Inv t m seat log → seat i ≡ Some v → t.kind ≡ Counted →
         IsHeld log v.numbers h → WasMade t log h }
+{}
+
+/// A seat that has an unfinished work between its calls has the resize lock.
+pub fn an_unfinished_work_has_the_resize_lock()
+    ensures law { (t : Table) (m : Memory) (seat : ℕ → Option View) (log : List Event) (i : ℕ) (v : View) (own : Own) (w : Work) → Inv t m seat log → seat i ≡ Some v →
+        v.seat ≡ doing.Idle own → own.work ≡ Some w → owner_of (now_in t log).resizing ≡ Some i }
+{}
+
+/// What a seat unlinked of a bucket in a window is counted by the log: none as the window begins, one more by each Unlink by the
+/// seat of a slot of the table that is in the bucket, and no more by any other event.
+pub fn own_unlinks_are_counted()
+    ensures none { (t : Table) (i row bucket : ℕ) (seen : List Event) → own_unlinks t i row bucket seen [] ≡ 0 }
+    ensures one { (t : Table) (i : ℕ) (seen window : List Event) (row bucket s : ℕ) → slot_bucket (now_in t (seen ++ window)) row s ≡ Some bucket → s < t.shape.slots →
+        own_unlinks t i row bucket seen (window ++ by i (what.Unlink s) ∷ []) ≡ own_unlinks t i row bucket seen window + 1 }
+    ensures other { (t : Table) (i : ℕ) (seen window : List Event) (row bucket : ℕ) (e : Event) →
+        (e.seat ≢ i) ⊎ (¬ (IsUnlinkOn (now_in t (seen ++ window)) row bucket e.what)) →
+        own_unlinks t i row bucket seen (window ++ e ∷ []) ≡ own_unlinks t i row bucket seen window }
+{}
+
+/// A poll of a clean makes few full passes over a bucket: each of them unlinked 256 slots of the bucket in the window of the poll, and
+/// where no other seat created an entry in the bucket there are at most `slots / 256`.
+pub fn a_poll_makes_few_full_passes()
+    ensures passes { (t : Table) (i : ℕ) (way : Way) (seen window : List Event) (load : ℕ) (caller : Caller) (c : Clean) →
+        Caused t i way seen window load (machine.Poll (record { caller = caller; work = work.Clean c; answer = None })) →
+        256 * c.along.full_passes ≤ own_unlinks t i c.along.cleaning.row c.along.cleaning.bucket seen window }
+    ensures few { (t : Table) (i : ℕ) (way : Way) (seen window : List Event) (load : ℕ) (caller : Caller) (c : Clean) →
+        Caused t i way seen window load (machine.Poll (record { caller = caller; work = work.Clean c; answer = None })) → IsTold t (seen ++ window) →
+        ¬ (Another i (IsCreateAt t c.along.cleaning.row c.along.cleaning.bucket) seen window) → c.along.full_passes ≤ t.shape.slots / 256 }
 {}
 
 /// A text that is too long for the table has no entry, so that a look-up of it misses without a step.
@@ -145,6 +184,9 @@ mod tests {
         works_rest_between_their_polls();
         live_handles_were_created();
         held_handles_were_created();
+        an_unfinished_work_has_the_resize_lock();
+        own_unlinks_are_counted();
+        a_poll_makes_few_full_passes();
         a_text_that_is_too_long_is_absent();
     }
 }

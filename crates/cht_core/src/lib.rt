@@ -5,6 +5,9 @@ pub mod cause_laws;
 mod condition;
 pub mod kind_laws;
 pub mod part_laws;
+pub mod rehash;
+pub mod rehash_laws;
+pub mod run_laws;
 pub mod seat;
 pub mod seat_laws;
 pub mod show_laws;
@@ -13,6 +16,7 @@ pub mod table;
 #[cfg(test)]
 mod tests;
 
+pub use rehash::Rehashing;
 pub use seat::Seat;
 pub use state::{MakeFault, OutOfMemory, Started, State, Stepped};
 pub use table::Table;

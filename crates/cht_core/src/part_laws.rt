@@ -8,17 +8,21 @@ ghost use Rattle.intern_log.specs.Now.{now_of};
 ghost use Rattle.intern_log.specs.Sections.{IsGraced};
 ghost use Rattle.intern_log.specs.Short.{IsShort};
 ghost use Rattle.cht_core.specs.declared.table.Table.{Table};
+ghost use Rattle.cht_core.specs.Edges.{UnlinkedLead};
 ghost use Rattle.cht_core.specs.Invariant.{Inv};
 ghost use Rattle.cht_core.specs.Memory.{Memory};
-ghost use Rattle.cht_core.specs.Parts.{EdgesLead, SectionsAreCounted, SectionsAreCountedAtOpen, WalkersStandSafely, WalkersAreLedSafely, GracesHavePlaces, PassedSectionsAreNewer};
+ghost use Rattle.cht_core.specs.Parts.{EdgesLead, UnlinkedLeadLater, SectionsAreCounted, SectionsAreCountedAtOpen, WalkersStandSafely, WalkersAreLedSafely, GracesHavePlaces, PassedSectionsAreNewer};
 ghost use Rattle.cht_core.specs.Parts.{WalksAreRouted, WalkersMissNothing, FirstNodesAreOld, InsertedTextsAreAbsent, NodesAreVisitedOnce, PassedNodesAreFew};
 ghost use Rattle.cht_core.specs.Parts.{LiveSlotsDiffer, TextsHaveOneEntry, IsFreedSafely, TakenSlotsAreKnown};
 ghost use Rattle.cht_core.specs.Past.{Past, kind_of, MayTell};
 ghost use Rattle.cht_core.specs.View.{View};
 
-/// The link of a linked slot, and the head of each bucket of the level's row, lead to a linked slot or to none.
+/// The link of a linked slot, and the head of each bucket of the level's row, lead to a linked slot or to none. The link of an unlinked
+/// slot leads to none, or to another slot that was linked as it was unlinked. So it leads to no slot that was unlinked before it.
 pub fn edges_lead_to_linked_slots()
     ensures law { (t : Table) (m : Memory) (seat : ℕ → Option View) (log : List Event) → Inv t m seat log → EdgesLead m (now_of t.shape.min_level log) }
+    ensures unlinked { (t : Table) (m : Memory) (seat : ℕ → Option View) (log : List Event) → Inv t m seat log → UnlinkedLead t m log }
+    ensures later { (t : Table) (m : Memory) (seat : ℕ → Option View) (log : List Event) → Inv t m seat log → UnlinkedLeadLater m (now_of t.shape.min_level log) }
 {}
 
 /// A section word without its lowest bit is at most the counter, and in a log of fewer than 2^47 Creates at most what the counter was at

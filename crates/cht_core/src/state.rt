@@ -1,5 +1,5 @@
 //! A whole table as plain data: its words, the call of each seat, and its log.
-ghost use Rattle.std.specs.Prelude.{◌≡◌, ◌++◌, ◌<◌, length, IfOk, IfErr, IfSome, OnErr};
+ghost use Rattle.std.specs.Prelude.{◌≡◌, ◌++◌, ◌<◌, ◌↔◌, length, IfOk, IfErr, IfSome, OnErr, IsTrue};
 ghost use Rattle.table_shape.specs.Shape.{IsSound, words_of};
 ghost use Rattle.intern_log.specs.Short.{IsShort};
 ghost use Rattle.intern_log.specs.Lawful.{IsLawful};
@@ -9,9 +9,10 @@ ghost use Rattle.cht_core.specs.Invariant.{events_of};
 ghost use Rattle.cht_core.specs.Memory.{memory_of};
 ghost use Rattle.cht_core.specs.Past.{kind_of as rules_of};
 ghost use Rattle.cht_core.specs.Shows.{ShowsLog};
-ghost use Rattle.cht_core.specs.State.{seat_in, IsFirstCounter, IsMakeFault, opening_of, first_seats_of, StartsAs, StepsAs, kind_next, started_by, stepped_by, drawn_in, with_drawn};
+ghost use Rattle.cht_core.specs.State.{seat_in, IsFirstCounter, IsMakeFault, opening_of, first_seats_of, StartsAs, StepsAs, CanRehash, RehashesAs, kind_next, started_by, stepped_by, drawn_in, with_drawn};
 
 use crate::condition::can_start;
+use crate::rehash::{Rehashing, are_free, has_dead, make_anew};
 use crate::seat::{Seat, after_word, begun, drawn};
 use crate::table::Table;
 use atomic_step::{Answer, Place, Plan, Shape, ShapeFault, Step, StepKind, Want};
@@ -200,6 +201,49 @@ impl<'t> State<'t> {
         self.seats[place] = Some(next);
         add_drawn(&mut self.seats, &self.table.shape, step, word);
         Ok(stepped_with(answer))
+    }
+
+    /// Makes the table anew by the next seed. `Refused` comes exactly where a seat has a running call, an unfinished work or
+    /// an unfinished grace, where a slot is linked and dead, or where the seed is 2. The new hash comes into the meta word of
+    /// each linked slot, and the chains of the level's row are made anew, each in ascending order of its slots. The log gets
+    /// one `Rehash` by number 0. Handles, counts, slots and the level stay. After `Refused` and `OutOfMemory` nothing has
+    /// changed.
+    pub fn rehash(&mut self) -> Rehashing
+        ensures value { RehashesAs self.old result self.new }
+        ensures lawful { IsShort self.new.log → IsLawful (rules_of self.new.table) self.new.log }
+        ensures shows { ShowsLog self.new.table (memory_of self.new.table.shape self.new.words) (now_of self.new.table.shape.min_level self.new.log) }
+    {
+        if !self.can_rehash() {
+            return Rehashing::Refused;
+        }
+        let seed = self.seed + 1;
+        let Ok(mut text) = vec![in self.alloc; 0u8; 8 * self.table.shape.text_words as usize] else {
+            return Rehashing::OutOfMemory;
+        };
+        let Ok(()) = record(&mut self.log, 0, Some(What::Rehash { seed })) else {
+            return Rehashing::OutOfMemory;
+        };
+        let level = self.words[self.table.shape.index(Place::Level) as usize] as u8;
+        make_anew(&mut self.words, &self.table.shape, level, seed, &mut text);
+        self.seed = seed;
+        Rehashing::Done
+    }
+
+    /// Whether the table may be made anew.
+    fn can_rehash(&self) -> bool
+        ensures exact { IsTrue result ↔ CanRehash self.now }
+    {
+        if self.seed >= 2 {
+            return false;
+        }
+        if !are_free(self.seats.as_slice()) {
+            return false;
+        }
+        !has_dead(
+            self.words.as_slice(),
+            &self.table.shape,
+            self.log.as_slice(),
+        )
     }
 
     /// The events so far, oldest first.

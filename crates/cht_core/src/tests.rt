@@ -1,5 +1,6 @@
 //! Tests of the core.
 mod laws;
+mod rehash;
 mod schedules;
 
 use super::*;

@@ -33,6 +33,9 @@ fn laws_can_be_called() {
     part_laws::live_texts_have_their_own_entries();
     part_laws::slots_are_freed_after_their_graces();
     part_laws::each_taken_slot_is_known();
+    rehash_laws::a_rehash_keeps_the_invariant();
+    rehash_laws::a_table_is_quiet_before_a_rehash();
+    rehash_laws::a_rehash_has_one_outcome();
     seat_laws::seats_may_begin_a_call();
     seat_laws::seats_may_rest_after_an_answer();
     seat_laws::new_seats_may_be_added();

@@ -1,6 +1,7 @@
 use Rattle.atomic_step.specs.declared.access.StepKind.TheVariants.{K2}
 use Rattle.cht_core.proofs.KindKeeps.{kind_keeps}
+use Rattle.cht_core.proofs.KindSteps.{claims_keep}
 use Rattle.cht_core.proofs.kind_laws.claims_keep_the_invariant.Goals as goal
 
 pub returns : goal.returns
-returns c = record { keeps = kind_keeps K2 }
+returns c = record { keeps = kind_keeps K2 claims_keep }

@@ -1,6 +1,7 @@
 use Rattle.atomic_step.specs.declared.access.StepKind.TheVariants.{K20}
 use Rattle.cht_core.proofs.KindKeeps.{kind_keeps}
+use Rattle.cht_core.proofs.KindSteps.{loads_of_the_new_level_keep}
 use Rattle.cht_core.proofs.kind_laws.loads_of_the_new_level_keep_the_invariant.Goals as goal
 
 pub returns : goal.returns
-returns c = record { keeps = kind_keeps K20 }
+returns c = record { keeps = kind_keeps K20 loads_of_the_new_level_keep }

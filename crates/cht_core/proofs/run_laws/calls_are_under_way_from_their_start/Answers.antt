@@ -1,0 +1,5 @@
+use Rattle.cht_core.proofs.RunGoesOn.{under_way_goes_on}
+use Rattle.cht_core.proofs.run_laws.calls_are_under_way_from_their_start.Goals as goal
+
+pub returns-clause-goes_on : goal.returns-clause-goes_on
+returns-clause-goes_on c = under_way_goes_on
