@@ -103,12 +103,12 @@ new_in_old Shrink r b level bucket off =
     skips (r) (b) (level, bucket + half Shrink level) ((level, bucket) ∷ left_of Shrink level bucket) (other_row r b level (bucket + half Shrink level) off)
     (skips (r) (b) (level, bucket) (left_of Shrink level bucket) (other_row r b level bucket off) (new_in_left Shrink r b level bucket off))
 
-lower_in_left : (d : Direction) (level bucket : ℕ) → bucket < half d level → is_held (level) (bucket) (left_of d level bucket) ≡ false
+pub lower_in_left : (d : Direction) (level bucket : ℕ) → bucket < half d level → is_held (level) (bucket) (left_of d level bucket) ≡ false
 lower_in_left Grow level bucket below = not_in_row level bucket level bucket (λ k less. other_bucket level bucket level k (λ is. omega (arith, less, is)))
 lower_in_left Shrink level bucket below = not_in_pairs level bucket level (half Shrink level) bucket
     (λ k less. (other_bucket level bucket level k (λ is. omega (arith, less, is)), other_bucket level bucket level (k + half Shrink level) (λ is. omega (arith, below, is))))
 
-upper_in_left : (level bucket apart : ℕ) → bucket < apart → is_held (level) (bucket + apart) ((level, bucket) ∷ pairs_left level apart bucket) ≡ false
+pub upper_in_left : (level bucket apart : ℕ) → bucket < apart → is_held (level) (bucket + apart) ((level, bucket) ∷ pairs_left level apart bucket) ≡ false
 upper_in_left level bucket apart below =
     skips (level) (bucket + apart) (level, bucket) (pairs_left level apart bucket) (other_bucket level (bucket + apart) level bucket (λ is. omega (arith, below, is)))
     (not_in_pairs level (bucket + apart) level apart bucket
@@ -192,7 +192,7 @@ none_left : (d : Direction) (level : ℕ) → left_of d level 0 ≡ []
 none_left Grow level = refl
 none_left Shrink level = refl
 
-heads_step : (shape : Shape) (d : Direction) (w : ResizeAlong) (s : ResizeStage) (word : ℕ) → IsSoundResize shape d w s
+pub heads_step : (shape : Shape) (d : Direction) (w : ResizeAlong) (s : ResizeStage) (word : ℕ) → IsSoundResize shape d w s
     → let does = resize_row shape d w s in Leads d (after_one monitor.locked (locked_heads d w s) (event_of [] does.step word)) (does.next word)
 heads_step shape d w PutNewLevel word sound = refl
 heads_step shape d w (Lock side LoadHead) word sound = either_way (λ came. Leads d (Some (locked_heads d w (Lock side LoadHead))) (locks_on d w side came)) (is_locked word) locking.Waits (locking.Goes (LockHead word))

@@ -1,12 +1,10 @@
 -- Where the head of its bucket is still what was loaded, a text that was looked for to the end of its chain has no live entry.
-use Rattle.std.proofs.Common.{◌≡◌, ℕ, ◌^◌, ◌<◌, ◌≤◌, false, List, [], ◌∷◌, Option, Some, None, refl, sym, ap, subst, ◌∙◌, inl, inr, arith}
-use Rattle.std.proofs.Math.Nat.{mod-lt}
+use Rattle.std.proofs.Common.{◌≡◌, ℕ, ◌<◌, ◌≤◌, false, List, [], ◌∷◌, Option, Some, None, refl, sym, ap, subst, ◌∙◌, inl, inr, arith}
 use Rattle.std.proofs.lemmas.Bool.{false_from_ne_true}
-use Rattle.std.proofs.lemmas.Nat.{pow_pos}
 use Rattle.chain_core.specs.Nodes.{On}
 use Rattle.chain_core.specs.Path.{IsPath}
 use Rattle.text_words.specs.Hash.{hash_of}
-use Rattle.marked_word.specs.Head.{first_of}
+use Rattle.marked_word.specs.Head.{first_of, is_redirected}
 use Rattle.table_shape.specs.declared.place.Place.TheVariants as place
 use Rattle.intern_log.specs.declared.event.Entry.{Entry}
 use Rattle.intern_log.specs.declared.event.Handle.{Handle}
@@ -16,7 +14,8 @@ use Rattle.atomic_step.specs.Count.{generation_of}
 use Rattle.cht_core.specs.declared.table.Table.{Table}
 use Rattle.cht_core.specs.Backs.{MayCreate}
 use Rattle.cht_core.specs.Chains.{AreRanked, birth, born}
-use Rattle.cht_core.specs.Flow.{Flow, bucket_in, IsUsed, IsHome}
+use Rattle.cht_core.specs.Flow.{Flow, IsUsed, ComesTo, IsHome}
+use Rattle.cht_core.specs.Stage.{bucket_in}
 use Rattle.cht_core.specs.Memory.{Memory, links}
 use Rattle.cht_core.specs.Past.{Past}
 use Rattle.cht_core.specs.Search.{IsAnchor, IsLinked}
@@ -25,6 +24,8 @@ use Rattle.cht_core.specs.TableState.{IsTable}
 use Rattle.cht_core.proofs.CreateParts.{all_before_load}
 use Rattle.cht_core.proofs.HeadWords.{first_of_head}
 use Rattle.cht_core.proofs.Locking.{Unlocked, unlocked_path}
+use Rattle.cht_core.proofs.Routes.{comes_where_plain, joined_locked}
+use Rattle.cht_core.proofs.Stages.{comes_used}
 
 -- a slot that is claimed is neither linked nor unlinked
 pub claimed_not_linked : (phase : Phase) (i : ℕ) (text : List ℕ) (h : Handle) (at : ℕ) → phase ≡ Claimed i → phase ≡ Linked text h at → ⊥
@@ -64,9 +65,14 @@ none_from (Some e) never = absurd (never e refl)
 
 module _ (t : Table) (m : Memory) (p : Past) (f : Flow) (i : ℕ) (text : List ℕ) (h : Handle) (row bucket head : ℕ) (table : IsTable t m p f) (may : MayCreate t m p f i text h row bucket head)
     (word : m (place.Head row bucket) ≡ head) where
+  -- callers of the text come to the row
+  pub comes_to_it : ComesTo p.now f (hash_of p.now.seed text) row
+  comes_to_it = comes_where_plain t m p f i (hash_of p.now.seed text) row may.searched.section table may.searched.inside may.searched.routed
+      (ap is_redirected (ap (λ (b : ℕ). m (place.Head row b)) (sym may.at_bucket) ∙ word) ∙ may.plain)
+
   -- callers come to the bucket
   pub comes_here : IsUsed p.now f row bucket
-  comes_here = (may.searched.routed, subst (λ b. b < 2 ^ row) (sym may.at_bucket) (mod-lt (hash_of p.now.seed text) (pow_pos row)))
+  comes_here = subst (IsUsed p.now f row) (sym may.at_bucket) (comes_used p.now f (hash_of p.now.seed text) row table.chains.within comes_to_it)
 
   -- it is not locked, and its chain begins with the node that was loaded
   unlocked : Unlocked m p f row bucket head
@@ -83,13 +89,16 @@ module _ (t : Table) (m : Memory) (p : Past) (f : Flow) (i : ℕ) (text : List �
   absent = none_from (entry_of p.now.texts text) (λ e is. elim (may.searched.live e is) [
     | inr on ↦ absurd on
     | inl late ↦ (
-        let there : On e.handle.slot (f.chain row (bucket_in row (hash_of p.now.seed text))) = table.chains.linked_on e.handle.slot text late.0 late.1 row late.2 may.searched.routed in
+        let there : On e.handle.slot (f.chain row (bucket_in row (hash_of p.now.seed text))) = table.chains.linked_on e.handle.slot text late.0 late.1 row late.2 comes_to_it in
         let on : On e.handle.slot (f.chain row bucket) = subst (λ b. On e.handle.slot (f.chain row b)) (sym may.at_bucket) there in
         let early : f.base row bucket ≤ may.load = subst (λ b. f.base row b ≤ may.load) (sym may.at_bucket) may.searched.based in
         let birth_of : born p.now.slot e.handle.slot ≡ late.1 = ap birth late.2 in
         let after_load : may.load ≤ late.1 = late.3 in
-        older m p.now may.searched.section.place may.load (f.base row bucket) (first_of head) (f.chain row bucket) may.searched.anchor leads_here linked_here early
-        (table.chains.ranked row bucket comes_here) e.handle.slot on (omega arith))
+        elim (table.chains.ranked row bucket comes_here) [
+          | inl joined ↦ absurd (joined_locked m p.now f row bucket table.heads is_open joined)
+          | inr ranked ↦ older m p.now may.searched.section.place may.load (f.base row bucket) (first_of head) (f.chain row bucket) may.searched.anchor leads_here linked_here early
+              ranked e.handle.slot on (omega arith)
+        ])
   ])
     where
       linked_here : (s : ℕ) → On s (f.chain row bucket) → IsLinked p.now s

@@ -15,10 +15,11 @@ use Rattle.call_machine.specs.declared.grace.GraceStage.TheVariants.{RaiseCounte
 use Rattle.call_machine.specs.declared.grace.Gracing.{Gracing}
 use Rattle.call_machine.specs.declared.grace.Gracing.TheVariants.{Goes, Waits, Over}
 use Rattle.call_machine.specs.declared.machine.Machine.TheVariants as machine
-use Rattle.call_machine.specs.Begin.{begin_turn, counted, goes_on, answers, taken, graced}
+use Rattle.call_machine.specs.Begin.{bounded, begin_turn, counted, goes_on, answers, taken, graced}
 use Rattle.call_machine.specs.Grace.{scanned}
 use Rattle.cht_core.specs.declared.seat.Seat.{Seat}
 use Rattle.cht_core.specs.declared.seat.Seat.TheVariants as doing
+use Rattle.cht_core.specs.Flow.{Flow}
 use Rattle.cht_core.specs.KnowsWork.{KnowsBegin}
 use Rattle.cht_core.specs.Memory.{Memory, IsMade, found}
 use Rattle.cht_core.proofs.BoundSteps.{counter_stays, counter_raised}
@@ -47,21 +48,26 @@ scanned_raises b before after g g' Waits same = raises_no_more before after (beg
 scanned_raises b before after g g' Over same = raises_no_more before after (begins_at b (begin.Grace g LoadSection)) (begins_at b (graced LoadSection g' Over)) refl (omega (arith, same))
 
 -- each step of such a call
-pub begin_raises : (m m' : Memory) (n : Now) (i : ℕ) (b : Beginning) (s : BeginStage) → KnowsBegin n i s
+pub begin_raises : (m m' : Memory) (n : Now) (f : Flow) (i : ℕ) (b : Beginning) (s : BeginStage) → KnowsBegin n f i s
     → IfMakes (λ does. IsMade does.step m m' → CanRaise m does.step →
     RaisesBy (m place.Counter) (m' place.Counter) (begins_at b s) (begins_at b (does.next (found does.step m)))) (begin_turn b.caller s)
-begin_raises m m' n i b (begin.LoadCounter t) known = λ made may. counted_raises b t (m place.Counter) (m' place.Counter) (counter_stays m m' step.LoadCounter made (λ e. cc))
-begin_raises m m' n i b (begin.TakeResizeLock t) known = λ made may.
+begin_raises m m' n f i b (begin.LoadCounter t) known = λ made may. counted_raises b t (m place.Counter) (m' place.Counter) (counter_stays m m' step.LoadCounter made (λ e. cc))
+begin_raises m m' n f i b (begin.TakeResizeLock t) known = λ made may.
     let next : BeginStage = if m place.ResizeLock == 0 then taken t else answers answer.Busy in
     raises_no_more (m place.Counter) (m' place.Counter) (begins_at b (begin.TakeResizeLock t)) (begins_at b next) refl
     (from_one (m place.Counter) (m' place.Counter) (begins_at b (begin.TakeResizeLock t)) (begins_at b next) (counter_stays m m' (step.TakeResizeLock b.caller.number) made (λ e. cc)) (omega arith))
-begin_raises m m' n i b (begin.LoadLevel d) known = absurd known
-begin_raises m m' n i b (begin.GiveResizeLock a) known = absurd known
-begin_raises m m' n i b (begin.Grace g RaiseCounter) known = λ made may.
+begin_raises m m' n f i b (begin.LoadLevel d) known = λ made may.
+    let next : BeginStage = bounded b.caller.shape d (m place.Level) in
+    raises_no_more (m place.Counter) (m' place.Counter) (begins_at b (begin.LoadLevel d)) (begins_at b next) refl
+    (from_one (m place.Counter) (m' place.Counter) (begins_at b (begin.LoadLevel d)) (begins_at b next) (counter_stays m m' step.LoadLevel made (λ e. cc)) (omega arith))
+begin_raises m m' n f i b (begin.GiveResizeLock a) known = λ made may.
+    let same : m' place.Counter ≡ m place.Counter = counter_stays m m' step.GiveResizeLock made (λ e. cc) in
+    raises_no_more (m place.Counter) (m' place.Counter) (begins_at b (begin.GiveResizeLock a)) (begins_at b (answers a)) refl (omega (arith, same))
+begin_raises m m' n f i b (begin.Grace g RaiseCounter) known = λ made may.
     let more : m' place.Counter ≡ m place.Counter + 2 = counter_raised m m' made (may refl) in
     let next : Grace = record { raised = m place.Counter + 2; next = 0 } in
     raises_no_more (m place.Counter) (m' place.Counter) (begins_at b (begin.Grace g RaiseCounter)) (begins_at b (graced RaiseCounter next Goes)) refl (omega (arith, more))
-begin_raises m m' n i b (begin.Grace g LoadSection) known = λ made may.
+begin_raises m m' n f i b (begin.Grace g LoadSection) known = λ made may.
     let came = scanned b.caller.shape.seats g (m (place.Section g.next)) in
     scanned_raises b (m place.Counter) (m' place.Counter) g came.0 came.1 (counter_stays m m' (step.LoadSection g.next) made (λ e. cc))
-begin_raises m m' n i b (begin.Answered a left) known = tt
+begin_raises m m' n f i b (begin.Answered a left) known = tt

@@ -24,12 +24,13 @@ use Rattle.cht_core.specs.View.{View, view_after, IsOfSeat, KnowsMachine, Knows}
 use Rattle.cht_core.proofs.GraceStages.{CanRaise}
 use Rattle.cht_core.proofs.Ledgers.{part_of_sum}
 use Rattle.cht_core.proofs.MachineBounds.{IsUnheld, machine_weight, machine_raises, machine_draws, machine_unheld}
+use Rattle.cht_core.proofs.ResizeOwner.{resize_owner}
 use Rattle.cht_core.proofs.WorkBounds.{below_high, DrawsBy, RaisesBy, bounds_after}
 
 -- who has a work has the resize lock
 work_owns : (m : Memory) (p : Past) (f : Flow) (i : ℕ) (w : Work) → KnowsWork m p f i w → IsOwner p.now i
-work_owns m p f i (work.Clean c) known = known.0
-work_owns m p f i (work.Resize r) known = absurd known
+work_owns m p f i (work.Clean c) known = known.0.owner
+work_owns m p f i (work.Resize r) known = resize_owner m p.now f i r.direction r.along r.stage known
 
 some_work : (m : Memory) (p : Past) (f : Flow) (i : ℕ) (o : Option Work) (w : Work) → IfSome o (KnowsWork m p f i) → o ≡ Some w → IsOwner p.now i
 some_work m p f i o w known is = work_owns m p f i w (subst (λ (x : Option Work). IfSome x (KnowsWork m p f i)) is known)

@@ -60,7 +60,7 @@ module _ (t : Table) (m : Memory) (p : Past) (f : Flow) (table : IsTable t m p f
   }
 
   read_knows : w.kept ≡ None → (s : ReadStage) (m' : Memory) → IsMade (read_row q w s).step m m' → KnowsCall m p f i load passed q w (stage.Read s)
-      → KnowsStage m' (told p i (event_of q.text (read_row q w s).step (found (read_row q w s).step m))) (flow_after f i q.text (read_row q w s).step (found (read_row q w s).step m)) i load passed q
+      → KnowsStage m' (told p i (event_of q.text (read_row q w s).step (found (read_row q w s).step m))) (flow_after p.now f i q.text (read_row q w s).step (found (read_row q w s).step m)) i load passed q
       ((read_row q w s).next (found (read_row q w s).step m)).0 ((read_row q w s).next (found (read_row q w s).step m)).1
   read_knows kept s m' made h = read_next t m m' p f i load passed q w table asked inside kept s made h.0
 

@@ -22,7 +22,8 @@ use Rattle.call_machine.specs.Leave.{leaves_with, tries_again}
 use Rattle.call_machine.specs.Node.{comes_to, end_of}
 use Rattle.cht_core.specs.declared.table.Table.{Table}
 use Rattle.cht_core.specs.Backs.{Backs, Goes}
-use Rattle.cht_core.specs.Flow.{Flow, bucket_in, flow_after}
+use Rattle.cht_core.specs.Flow.{Flow, flow_after}
+use Rattle.cht_core.specs.Stage.{bucket_in}
 use Rattle.cht_core.specs.KnowsCall.{IsKept, KnowsKept, KnowsStage, KnowsCall, AtEnd}
 use Rattle.cht_core.specs.Memory.{Memory, IsMade, found, links}
 use Rattle.cht_core.specs.Past.{Past, told}
@@ -33,7 +34,7 @@ use Rattle.cht_core.proofs.Walks.{none_ahead}
 -- the row of a stage is one that the table backs, and leads to a stage that is known
 pub record Serves (t : Table) (m : Memory) (p : Past) (f : Flow) (i load : ℕ) (passed : List ℕ) (q : Asked) (does : Row (Along × CallStage)) : Type 0 where
   pub backs : Backs t m p f i q.text does.step
-  pub leads : (m' : Memory) → IsMade does.step m m' → Goes t m p f i q.text does.step m' → KnowsCall m' (told p i (event_of q.text does.step (found does.step m))) (flow_after f i q.text does.step (found does.step m)) i
+  pub leads : (m' : Memory) → IsMade does.step m m' → Goes t m p f i q.text does.step m' → KnowsCall m' (told p i (event_of q.text does.step (found does.step m))) (flow_after p.now f i q.text does.step (found does.step m)) i
       (load_after does.step p.now.place load) (passed_after does.step passed) q (does.next (found does.step m)).0 (does.next (found does.step m)).1
 
 -- the words of a slot that the seat has claimed are the same

@@ -46,7 +46,7 @@ leaves_none i m p f = record {
   counts = λ s at is. refl;
   owner = λ is. is;
   owner_back = λ is. is;
-  still = λ is. record { level = refl; since = refl };
+  still = λ is. record { level = refl; since = refl; stage = refl; before = refl; parted = λ s. refl; free = λ row bucket unused none. none };
 }
 
 pub spares_none : (i : ℕ) (m : Memory) (p : Past) (f : Flow) → Spares i m p f m p f

@@ -1,5 +1,5 @@
 -- Steps that change no head, no link of a node, no chain and no entry of the map.
-use Rattle.std.proofs.Common.{◌≡◌, ◌≢◌, ℕ, ◌+◌, ◌<◌, ◌≤◌, ◌⊎◌, true, List, [], ◌∷◌, Option, Some, refl, sym, ap, subst, ◌∙◌, inl, inr, arith}
+use Rattle.std.proofs.Common.{◌≡◌, ◌≢◌, ℕ, ◌+◌, ◌<◌, ◌≤◌, ◌⊎◌, true, List, [], ◌∷◌, Option, Some, None, refl, sym, ap, subst, ◌∙◌, inl, inr, arith}
 use Rattle.chain_core.specs.Nodes.{On}
 use Rattle.chain_core.specs.Path.{IsPath}
 use Rattle.text_words.specs.Hash.{hash_of}
@@ -21,7 +21,8 @@ use Rattle.cht_core.specs.Past.{Past, MayTell, kind_of}
 use Rattle.cht_core.specs.Rely.{Grows, Leaves, Spares}
 use Rattle.cht_core.specs.Search.{IsFit, IsHeld, IsLinked}
 use Rattle.cht_core.specs.Slots.{Slots, IsPast, claim_word}
-use Rattle.cht_core.specs.TableState.{IsTable, Words}
+use Rattle.cht_core.specs.Stage.{Stage, Quiet, Growing, Splitting, Shrinking, Joining, Turning, Closing, Parted, Whole, IsSpared, IsGone, IsPinned, IsWhole}
+use Rattle.cht_core.specs.TableState.{IsTable, Words, IsSettled, KeepsRow, IsClear}
 use Rattle.cht_core.specs.Tidy.{IsTidy}
 
 -- what is told, but for the map, the locks, the level and the seed, which are as they were
@@ -76,6 +77,55 @@ pub record SameWorks (k : ℕ) (m m' : Memory) (n n' : Now) : Type 0 where
   pub owner : owner_of n.resizing ≡ Some k → owner_of n'.resizing ≡ Some k
   pub owner_back : owner_of n'.resizing ≡ Some k → owner_of n.resizing ≡ Some k
 
+-- what it leaves of the slots that were moved past on the chain of the other side
+pub record SameParted (i : ℕ) (n : Now) (f : Flow) (parted : ℕ → Parted) : Type 0 where
+  pub spared : (k s : ℕ) (o : OpenSection) → n.section k ≡ Some o → IsSpared (f.parted s) o.place → IsSpared (parted s) o.place
+  pub whole : (s : ℕ) → f.parted s ≡ Whole → parted s ≡ Whole
+  pub others : (k : ℕ) → k ≢ i → owner_of n.resizing ≡ Some k → (s : ℕ) → parted s ≡ f.parted s
+
+-- what it leaves of what the resize lock says
+pub record SameResize (n n' : Now) (f : Flow) : Type 0 where
+  pub held : (row bucket k : ℕ) → n.lock row bucket ≡ Some k → IsUsed n f row bucket ⊎ (owner_of n'.resizing ≡ Some k)
+  pub gone : (bucket : ℕ) → IsGone f.stage bucket → (k : ℕ) × (owner_of n'.resizing ≡ Some k) × (n.lock n.level bucket ≡ Some k)
+  pub pinned : (row bucket : ℕ) → IsPinned f.stage n.level row bucket → (k : ℕ) × (owner_of n'.resizing ≡ Some k) × (n.lock row bucket ≡ Some k)
+  pub idle : n'.resizing ≡ None → f.stage ≡ Quiet
+  pub whole : IsSettled n' → IsWhole f.stage
+  pub row : KeepsRow (calm_now n n')
+
+pub same_parted : (i : ℕ) (n : Now) (f : Flow) → SameParted i n f f.parted
+same_parted i n f = record { spared = λ k s o is spared. spared; whole = λ s is. is; others = λ k differs is s. refl }
+
+-- a step that leaves the resize lock leaves what it says
+pub same_resize : (t : Table) (m : Memory) (p : Past) (f : Flow) (n' : Now) → IsTable t m p f → n'.resizing ≡ p.now.resizing → SameResize p.now n' f
+same_resize t m p f n' table same = record {
+  held = λ row bucket k is. elim (table.heads.held row bucket k is) [ inl used ↦ inl used | inr owner ↦ inr (ap owner_of same ∙ owner) ];
+  gone = λ bucket is. let lock = table.heads.gone bucket is in (lock.0, ap owner_of same ∙ lock.1, lock.2);
+  pinned = λ row bucket is. let lock = table.heads.pinned row bucket is in (lock.0, ap owner_of same ∙ lock.1, lock.2);
+  idle = λ none. table.idle (sym same ∙ none);
+  whole = λ settled. table.whole (λ r is. settled r (same ∙ is));
+  row = λ r is. table.row r (sym same ∙ is);
+}
+
+-- while no section is opened from before the last Level, none is open from before it
+pub clear_kept : (st : Stage) (n n' : Now) → n'.since ≡ n.since → n.since ≤ n.place
+    → ((k : ℕ) (o : OpenSection) → n'.section k ≡ Some o → (n.section k ≡ Some o) ⊎ (n.place ≤ o.place)) → IsClear st n → IsClear st n'
+clear_kept st n n' same early opened = go st
+  where
+    later : ((k : ℕ) (o : OpenSection) → n.section k ≡ Some o → n.since ≤ o.place) → (k : ℕ) (o : OpenSection) → n'.section k ≡ Some o → n'.since ≤ o.place
+    later clear k o is = elim (opened k o is) [
+      | inl was ↦ (let x : n.since ≤ o.place = clear k o was in omega (arith, x, same))
+      | inr new ↦ omega (arith, new, same, early)
+    ]
+
+    go : (st : Stage) → IsClear st n → IsClear st n'
+    go Quiet clear = later clear
+    go (Growing d) clear = later clear
+    go (Splitting a) clear = later clear
+    go (Shrinking k d) clear = later clear
+    go (Joining k a) clear = later clear
+    go (Turning k a) clear = later clear
+    go Closing clear = tt
+
 -- a path stays where the links of its nodes do
 pub path_kept : (next new : ℕ → Option ℕ) (first : Option ℕ) (nodes : List ℕ) → ((s : ℕ) → On s nodes → new s ≡ next s) → IsPath next first nodes → IsPath new first nodes
 path_kept next new first [] same path = path
@@ -112,18 +162,24 @@ module _ (i : ℕ) (m m' : Memory) (p q : Past) (c : Calm i m m' p q) where
   pub calm_linked_count : (s : ℕ) → IsLinked p.now s → m' (place.Count s) ≡ m (place.Count s)
   calm_linked_count s l = c.words.count s (linked_not s l) (λ at is. let clash : Unlinked i at ≡ Linked l.0 l.1 l.2 = sym is ∙ l.3 in absurd (cc))
 
-  fit_kept : (f : Flow) (k hash s : ℕ) (o : OpenSection) → p.now.section k ≡ Some o → IsFit p.now f o.place hash s → IsFit (calm_now p.now q.now) f o.place hash s
-  fit_kept f k hash s o is fit = record {
+  -- the flow with what has become of the slots that were moved past
+  abbrev parted_flow : Flow → (ℕ → Parted) → Flow
+  parted_flow f parted = record f { parted = parted }
+
+  fit_kept : (f : Flow) (parted : ℕ → Parted) → SameParted i p.now f parted → (k hash s : ℕ) (o : OpenSection) → p.now.section k ≡ Some o → IsFit p.now f o.place hash s
+      → IsFit (calm_now p.now q.now) (parted_flow f parted) o.place hash s
+  fit_kept f parted d k hash s o is fit = record {
     held = elim fit.held [
       | inl l ↦ inl (l.0, l.1, l.2, c.slots.linked s l.0 l.1 l.2 l.3)
       | inr u ↦ inr (u.0, u.1, c.slots.held s u.0 u.1 k o u.2 is u.3, u.3)
     ];
     near = λ text h born linked. fit.near text h born (c.slots.linked_back s text h born linked);
+    side = λ text h born linked differs. d.spared k s o is (fit.side text h born (c.slots.linked_back s text h born linked) differs);
   }
 
   -- what others know goes on
-  pub calm_grows : (f : Flow) → Grows m p f m' (calm_past p q) f
-  calm_grows f = record {
+  pub calm_grows : (f : Flow) (parted : ℕ → Parted) → SameParted i p.now f parted → Grows m p f m' (calm_past p q) (parted_flow f parted)
+  calm_grows f parted d = record {
     later = c.later;
     seed = refl;
     counter = c.words.counter;
@@ -136,11 +192,11 @@ module _ (i : ℕ) (m m' : Memory) (p q : Past) (c : Calm i m m' p q) where
     sections = c.seats.opened;
     words = λ k s o is held. (c.words.meta s (held_not o.place s held), λ at. c.words.text s at (held_not o.place s held));
     walks = record {
-      fits = fit_kept f;
+      fits = fit_kept f parted d;
       go = λ k o text hash node ahead is path fit. record {
         left = ahead;
         path = path_kept (links m) (links m') node ahead (λ s on. link_kept s (held_not o.place s (fit s on).held)) path;
-        fit = λ s on. fit_kept f k hash s o is (fit s on);
+        fit = λ s on. fit_kept f parted d k hash s o is (fit s on);
         kept = λ s on. inl on;
         fresh = λ s on. inl on;
       };
@@ -151,17 +207,23 @@ module _ (i : ℕ) (m m' : Memory) (p q : Past) (c : Calm i m m' p q) where
   }
 
   -- the chains stay
-  pub calm_chains : (f : Flow) → Chains p.now f → Chains (calm_now p.now q.now) f
-  calm_chains f h = record {
+  pub calm_chains : (f : Flow) (parted : ℕ → Parted) → SameParted i p.now f parted → Chains p.now f → Chains (calm_now p.now q.now) (parted_flow f parted)
+  calm_chains f parted d h = record {
     on_linked = λ row bucket s used on.
         let l : (text : List ℕ) × (k : Handle) × (at : ℕ) × (p.now.slot s ≡ Linked text k at) × IsHome p.now f row bucket (hash_of p.now.seed text) = h.on_linked row bucket s used on in
         (l.0, l.1, l.2, c.slots.linked s l.0 l.1 l.2 l.3, l.4);
     linked_on = λ s text k at row is to. h.linked_on s text k at row (c.slots.linked_back s text k at is) to;
     once = h.once;
-    ranked = λ row bucket used. ranked_kept (f.base row bucket) (born p.now.slot) (born q.now.slot) (f.chain row bucket) (λ s on.
-        let l : (text : List ℕ) × (k : Handle) × (at : ℕ) × (p.now.slot s ≡ Linked text k at) × IsHome p.now f row bucket (hash_of p.now.seed text) = h.on_linked row bucket s used on in
-        ap birth (c.slots.linked s l.0 l.1 l.2 l.3) ∙ sym (ap birth l.3)) (h.ranked row bucket used);
+    ranked = λ row bucket used. elim (h.ranked row bucket used) [
+      | inl joined ↦ inl joined
+      | inr ranked ↦ inr (ranked_kept (f.base row bucket) (born p.now.slot) (born q.now.slot) (f.chain row bucket) (λ s on.
+          let l : (text : List ℕ) × (k : Handle) × (at : ℕ) × (p.now.slot s ≡ Linked text k at) × IsHome p.now f row bucket (hash_of p.now.seed text) = h.on_linked row bucket s used on in
+          ap birth (c.slots.linked s l.0 l.1 l.2 l.3) ∙ sym (ap birth l.3)) ranked)
+    ];
     bases = λ row bucket. let before : f.base row bucket ≤ p.now.place = h.bases row bucket in let later : p.now.place ≤ q.now.place = c.later in omega (arith, before, later);
+    sides = λ row bucket s text k at used on is. elim (h.sides row bucket s text k at used on (c.slots.linked_back s text k at is)) [ inl whole ↦ inl (d.whole s whole) | inr own ↦ inr own ];
+    loose = λ s. elim (h.loose s) [ inl whole ↦ inl (d.whole s whole) | inr l ↦ inr (l.0, l.1, l.2, c.slots.linked s l.0 l.1 l.2 l.3, l.4) ];
+    within = h.within;
   }
 
   chain_link : (f : Flow) → Chains p.now f → (row bucket s : ℕ) → IsUsed p.now f row bucket → On s (f.chain row bucket) → m' (place.Link s) ≡ m (place.Link s)
@@ -187,20 +249,25 @@ module _ (i : ℕ) (m m' : Memory) (p q : Past) (c : Calm i m m' p q) where
   }
 
   -- the heads stay, but for the resize lock
-  pub calm_heads : (f : Flow) → Chains p.now f → Heads m p.now f → m' place.ResizeLock ≡ owner_word (owner_of q.now.resizing) → Heads m' (calm_now p.now q.now) f
-  calm_heads f h heads owner = record {
+  pub calm_heads : (f : Flow) (parted : ℕ → Parted) → Chains p.now f → Heads m p.now f → m' place.ResizeLock ≡ owner_word (owner_of q.now.resizing) → SameResize p.now q.now f
+      → Heads m' (calm_now p.now q.now) (parted_flow f parted)
+  calm_heads f parted h heads owner resize = record {
     level = c.words.level ∙ heads.level;
     new_level = c.words.new_level ∙ heads.new_level;
     owner = owner;
     paths = λ row bucket used.
         let way : (first : Option ℕ) × (m (place.Head row bucket) ≡ used_head first (p.now.lock row bucket)) × IsPath (links m) first (f.chain row bucket) = heads.paths row bucket used in
         (way.0, c.words.heads row bucket ∙ way.1, path_kept (links m) (links m') way.0 (f.chain row bucket) (λ s on. ap node_of (chain_link f h row bucket s used on)) way.2);
-    held = heads.held;
+    behind = λ row bucket is. let word = heads.behind row bucket is in (word.0, c.words.heads row bucket ∙ word.1);
+    held = resize.held;
+    gone = resize.gone;
+    pinned = resize.pinned;
   }
 
   -- a seat keeps what its works have
-  pub calm_leaves : (f : Flow) (k : ℕ) → Chains p.now f → SameWorks k m m' p.now q.now → Leaves k m p f m' (calm_past p q) f
-  calm_leaves f k h works = record {
+  pub calm_leaves : (f : Flow) (parted : ℕ → Parted) (k : ℕ) → (owner_of p.now.resizing ≡ Some k → (s : ℕ) → parted s ≡ f.parted s) → Chains p.now f → SameWorks k m m' p.now q.now
+      → Leaves k m p f m' (calm_past p q) (parted_flow f parted)
+  calm_leaves f parted k same h works = record {
     locks = λ row bucket is. is;
     locks_back = λ row bucket is. is;
     heads = λ row bucket is. c.words.heads row bucket;
@@ -213,7 +280,7 @@ module _ (i : ℕ) (m m' : Memory) (p q : Past) (c : Calm i m m' p q) where
     counts = works.counts;
     owner = works.owner;
     owner_back = works.owner_back;
-    still = λ is. record { level = refl; since = refl };
+    still = λ is. record { level = refl; since = refl; stage = refl; before = refl; parted = same is; free = λ row bucket unused none. none };
   }
 
   other_works : (k : ℕ) → k ≢ i → SameWorks k m m' p.now q.now
@@ -226,8 +293,8 @@ module _ (i : ℕ) (m m' : Memory) (p q : Past) (c : Calm i m m' p q) where
   }
 
   -- another seat keeps what it has
-  pub calm_spares : (f : Flow) (k : ℕ) → k ≢ i → Chains p.now f → Spares k m p f m' (calm_past p q) f
-  calm_spares f k differs h =
+  pub calm_spares : (f : Flow) (parted : ℕ → Parted) → SameParted i p.now f parted → (k : ℕ) → k ≢ i → Chains p.now f → Spares k m p f m' (calm_past p q) (parted_flow f parted)
+  calm_spares f parted d k differs h =
       let other : (s : ℕ) → p.now.slot s ≡ Claimed k → p.now.slot s ≢ Claimed i = λ s is mine. let clash : Claimed i ≡ Claimed k = sym mine ∙ is in let same : i ≡ k = cc in differs (sym same) in
       record {
         section = c.seats.section k differs;
@@ -238,14 +305,15 @@ module _ (i : ℕ) (m m' : Memory) (p q : Past) (c : Calm i m m' p q) where
         meta = λ s is. c.words.meta s (other s is);
         text = λ s at is. c.words.text s at (other s is);
         holds = λ h. refl;
-        leaves = calm_leaves f k h (other_works k differs);
+        leaves = calm_leaves f parted k (d.others k differs) h (other_works k differs);
       }
 
-  -- such a step leads on: its own parts are those of its words, its slots, its sections and the resize lock
-  pub calm_goes_on : (t : Table) (f : Flow) (s : Step) (e : Option What) → IsTable t m p f → MayTell (kind_of t) p i e → IsTidy t (calm_now p.now q.now)
-      → Words t m' → Slots t m' (calm_past p q) → Sections t m' (calm_now p.now q.now) → m' place.ResizeLock ≡ owner_word (owner_of q.now.resizing)
-      → (IsOfTry p.now i s → SameWorks i m m' p.now q.now) → LeadsOn t m p f i s e m' (calm_past p q) f
-  calm_goes_on t f s e table told tidy words slots sections owner own = record {
+  -- such a step leads on: its own parts are those of its words, its slots, its sections, the resize lock and the slots that were moved past
+  pub calm_parts_go_on : (t : Table) (f : Flow) (parted : ℕ → Parted) (s : Step) (e : Option What) → SameParted i p.now f parted → IsTable t m p f → MayTell (kind_of t) p i e
+      → IsTidy t (calm_now p.now q.now) → Words t m' → Slots t m' (calm_past p q) → Sections t m' (calm_now p.now q.now) → m' place.ResizeLock ≡ owner_word (owner_of q.now.resizing)
+      → SameResize p.now q.now f → (IsOfTry p.now i s → SameWorks i m m' p.now q.now) → (IsOfTry p.now i s → (x : ℕ) → parted x ≡ f.parted x)
+      → LeadsOn t m p f i s e m' (calm_past p q) (parted_flow f parted)
+  calm_parts_go_on t f parted s e d table told tidy words slots sections owner resize own still = record {
     told = told;
     table = record {
       shape = table.shape;
@@ -253,11 +321,24 @@ module _ (i : ℕ) (m m' : Memory) (p q : Past) (c : Calm i m m' p q) where
       words = words;
       slots = slots;
       sections = sections;
-      heads = calm_heads f table.chains table.heads owner;
-      chains = calm_chains f table.chains;
+      heads = calm_heads f parted table.chains table.heads owner resize;
+      chains = calm_chains f parted d table.chains;
+      clear = clear_kept f.stage p.now (calm_now p.now q.now) refl table.tidy.since
+          (λ k o is. elim (c.seats.opened k o is) [ inl was ↦ inl was | inr new ↦ inr new.0 ]) table.clear;
+      idle = resize.idle;
+      whole = resize.whole;
+      row = resize.row;
+      named = table.named;
       ledger = table.ledger;
     };
-    grows = calm_grows f;
-    spares = λ k differs. calm_spares f k differs table.chains;
-    leaves = λ try. calm_leaves f i table.chains (own try);
+    grows = calm_grows f parted d;
+    spares = λ k differs. calm_spares f parted d k differs table.chains;
+    leaves = λ try. calm_leaves f parted i (λ is. still try) table.chains (own try);
   }
+
+  -- and so does one that leaves the slots that were moved past as they are
+  pub calm_goes_on : (t : Table) (f : Flow) (s : Step) (e : Option What) → IsTable t m p f → MayTell (kind_of t) p i e → IsTidy t (calm_now p.now q.now)
+      → Words t m' → Slots t m' (calm_past p q) → Sections t m' (calm_now p.now q.now) → m' place.ResizeLock ≡ owner_word (owner_of q.now.resizing)
+      → SameResize p.now q.now f → (IsOfTry p.now i s → SameWorks i m m' p.now q.now) → LeadsOn t m p f i s e m' (calm_past p q) f
+  calm_goes_on t f s e table told tidy words slots sections owner resize own =
+      calm_parts_go_on t f f.parted s e (same_parted i p.now f) table told tidy words slots sections owner resize own (λ try x. refl)

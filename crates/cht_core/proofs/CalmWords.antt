@@ -23,7 +23,7 @@ use Rattle.cht_core.specs.Slots.{Slots, IsPast, claim_word}
 use Rattle.cht_core.specs.TableState.{IsTable}
 use Rattle.cht_core.specs.Tidy.{IsTidy}
 use Rattle.cht_core.proofs.Basics.{with_here, with_other}
-use Rattle.cht_core.proofs.CalmParts.{Calm, SameWords, SameSlots, SameSeats, SameWorks, calm_now, calm_past, calm_slots, calm_goes_on}
+use Rattle.cht_core.proofs.CalmParts.{Calm, SameWords, SameSlots, SameSeats, SameWorks, calm_now, calm_past, calm_slots, calm_goes_on, same_resize}
 use Rattle.cht_core.proofs.WordsKept.{words_kept}
 
 -- a word that only seat i reads, or that is no head, no level and no word of a node
@@ -187,6 +187,7 @@ module _ (t : Table) (m m' : Memory) (p : Past) (f : Flow) (i : ℕ) (s : Step) 
       slots
       (same_sections t m m' p.now (calm_now p.now q.now) sections graces same (λ k. untouched (place.Section k) (λ z. z)) table.sections)
       (untouched place.ResizeLock (λ z. z) ∙ table.heads.owner ∙ ap (λ r. owner_word (owner_of r)) (sym resizing))
+      (same_resize t m p f q.now table resizing)
       works
 
   -- without an event

@@ -45,7 +45,7 @@ use Rattle.call_machine.specs.SoundMachine.{IsSoundOwn, MayStart, IsSoundMachine
 use Rattle.call_machine.proofs.Machines.{plan_part, got_part, plan_is, got_is, event_is, fits_part}
 use Rattle.cht_core.specs.declared.table.Table.{Table}
 use Rattle.cht_core.specs.Caused.{way_of, Caused, Hears, MayCause, SweepEnds, Cause}
-use Rattle.cht_core.specs.Causes.{now_in, IsUnseen, PlanSays, loaded_at, IsResting, BeginCaused, PollEnds, CleanEnds, PollCaused, SweepCaused}
+use Rattle.cht_core.specs.Causes.{now_in, IsUnseen, PlanSays, loaded_at, IsResting, BeginCaused, PollEnds, WorkEnds, PollCaused, SweepCaused}
 use Rattle.cht_core.specs.CauseCalls.{Way, Walks, Changes, Splits, WasMade, CallCaused}
 use Rattle.cht_core.specs.Flow.{Flow}
 use Rattle.cht_core.specs.Invariant.{events_of}
@@ -92,7 +92,7 @@ module _ (t : Table) (i : ℕ) (way : Way) (seen window : List Event) (load : �
   part_steps (machine.Begin b) word shape sound fits told tidy h says hears = (
     unseen_steps i window (machine.Begin b) word tt h.0,
     begin_on t i seen window (events_of i (event_of (machine.Begin b) word)) _
-        (begin_found t i seen window f b.caller b.stage word h.1 says hears),
+        (begin_found t i seen window f b.caller b.stage word shape h.1 says hears),
   )
   part_steps (machine.Poll p) word shape sound fits told tidy h says hears =
       subst (λ e. After (plan_part (machine.Poll p)) e (got_part (machine.Poll p) word)) (sym (event_is (machine.Poll p) word)) (
@@ -125,9 +125,10 @@ same_answer b a is = cc
 
 poll_answered : (t : Table) (i : ℕ) (seen window : List Event) (load : ℕ) (caller : Caller) (w : Work) (o : Option Answer) (a : Answer) →
     plan_part (machine.Poll (record { caller = caller; work = w; answer = o })) ≡ plan.Answered a → PollCaused t i seen window load w o → PollEnds t i seen window w a
-poll_answered t i seen window load caller (work.Clean c) (Some b) a is h = subst (CleanEnds t i seen window c.along) (same_answer b a is) h
+poll_answered t i seen window load caller (work.Clean c) (Some b) a is h = subst (WorkEnds t i seen window c.along.grace.raised) (same_answer b a is) h
 poll_answered t i seen window load caller (work.Clean c) None a is h = absurd (cc)
-poll_answered t i seen window load caller (work.Resize r) o a is h = absurd h
+poll_answered t i seen window load caller (work.Resize r) (Some b) a is h = subst (WorkEnds t i seen window r.along.grace.raised) (same_answer b a is) h
+poll_answered t i seen window load caller (work.Resize r) None a is h = absurd (cc)
 
 sweep_ends : (t : Table) (seen window : List Event) (a : Answer) → SweepCaused t seen window (sweep.Answered a) → SweepEnds t seen window a
 sweep_ends t seen window (answer.Spent counter) h = h

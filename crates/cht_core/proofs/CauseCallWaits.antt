@@ -20,6 +20,7 @@ use Rattle.call_machine.specs.declared.stage.Goal.{Goal}
 use Rattle.call_machine.specs.declared.stage.Goal.TheVariants.{Lookup, Intern, InternWait}
 use Rattle.call_machine.specs.declared.find.Walk.{Walk}
 use Rattle.cht_core.specs.declared.table.Table.{Table}
+use Rattle.cht_core.specs.Causes.{IsRowIn}
 use Rattle.cht_core.specs.CauseCalls.{Way, Walks, Changes, Reads, Splits, IsWordOf, IsAbsent, IsGone, IsTaken, IsTextLocked, IsOnHandle, IsOnHome, CountLost, LostBy, WalkEnds, ChangeEnds}
 use Rattle.cht_core.specs.CauseCalls.{ReadEnds, CallEnds}
 use Rattle.cht_core.specs.CauseCalls.{ThenEnds, HeadFound, CallCaused}
@@ -38,7 +39,7 @@ module _ (t : Table) (i : ℕ) (seen window more : List Event) where
   lost_on Lookup text h = count_lost_on text h
   lost_on Intern text h = elim h [
     | inl count ↦ inl (count_lost_on text count)
-    | inr head ↦ inr (another_on seen window i (IsOnHome t text) more head)
+    | inr head ↦ inr (head.0, somewhere_on seen window (IsRowIn t head.0) more head.1, another_on seen window i (IsOnHome t head.0 text) more head.2)
   ]
   lost_on InternWait text h = absurd h
 
@@ -69,7 +70,7 @@ module _ (t : Table) (i : ℕ) (seen window more : List Event) where
   then_ends_on way q next.TryAgain h = h
 
   head_found_on : (load : ℕ) (text : List ℕ) (walk : Walk) → HeadFound t seen window load text walk → HeadFound t seen (window ++ more) load text walk
-  head_found_on load text walk h = record { began = h.began; locked = λ is. somewhere_on seen window (IsTextLocked t text) more (h.locked is) }
+  head_found_on load text walk h = record { began = h.began; row = somewhere_on seen window (IsRowIn t walk.row) more h.row; locked = λ is. somewhere_on seen window (IsTextLocked t text) more (h.locked is) }
 
   -- of a try call
   pub call_on : (way : Way) (load : ℕ) (q : Asked) (w : Along) (s : CallStage) → CallCaused t i way seen window load q w s → CallCaused t i way seen (window ++ more) load q w s
@@ -80,8 +81,8 @@ module _ (t : Table) (i : ℕ) (seen window more : List Event) where
   call_on way load q w (stage.Node (node.Take slot count)) h = (h.0, somewhere_on seen window (IsWordOf q.text (handle_at slot count) count) more h.1)
   call_on way load q w (stage.Node _) h = (h.0, head_found_on load q.text w.walk h.1)
   call_on way load q w (stage.Insert (insert.Claim slot tried)) h =
-      (h.0, h.1, h.2, somewhere_on seen window (IsAbsent q.text) more h.3, λ x before. somewhere_on seen window (IsTaken t x) more (h.4 x before))
-  call_on way load q w (stage.Insert _) h = h
+      (h.0, h.1, h.2, somewhere_on seen window (IsAbsent q.text) more h.3, λ x before. somewhere_on seen window (IsTaken t x) more (h.4 x before), somewhere_on seen window (IsRowIn t w.walk.row) more h.5)
+  call_on way load q w (stage.Insert _) h = (h.0, h.1, h.2, somewhere_on seen window (IsRowIn t w.walk.row) more h.3)
   call_on way load q w (stage.Handle (handle.Count change)) h = h
   call_on way load q w (stage.Handle (handle.Exchange change count)) h = (h.0, (h.1.0, somewhere_on seen window (IsWordOf h.1.0 q.handle count) more h.1.1))
   call_on way load q w (stage.Read s) h = h

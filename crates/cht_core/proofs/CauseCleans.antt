@@ -39,19 +39,21 @@ use Rattle.call_machine.specs.Clean.{Went, goes, cleans_on, locks_on, graces_on,
 use Rattle.call_machine.specs.Grace.{counts_grace}
 use Rattle.call_machine.specs.Pass.{passes_on, begins_pass, pass_row, looks_at, dead_of, unlinks, after_unlink, first_behind, waiting_at, all_freed}
 use Rattle.call_machine.specs.Poll.{poll_turn}
+use Rattle.call_machine.specs.Resize.{resize_row}
 use Rattle.call_machine.specs.SoundClean.{IsSoundClean}
 use Rattle.call_machine.specs.Work.{resumes, IsSoundWork}
 use Rattle.cht_core.specs.declared.table.Table.{Table}
 use Rattle.cht_core.specs.Flow.{Flow}
 use Rattle.cht_core.specs.Past.{Past, past_of}
-use Rattle.cht_core.specs.Causes.{now_in, PlanSays, IsUnseen, IsLockedByOther, IsOnBucket, loaded_at, KeepsResizeLock, HasMade, CleanCaused, PollCaused, CleanHears, PollHears, IsResting}
+use Rattle.cht_core.specs.Causes.{now_in, PlanSays, IsUnseen, IsLockedByOther, IsOnBucket, loaded_at, KeepsResizeLock, HasMade, CleanCaused, ResizeCaused, PollCaused, CleanHears, PollHears, IsResting}
 use Rattle.cht_core.specs.WordSays.{WordSays}
 use Rattle.cht_core.specs.Invariant.{events_of}
 use Rattle.cht_core.specs.Unlinks.{is_given}
 use Rattle.cht_core.specs.Windows.{Another, IsTold}
 use Rattle.cht_core.proofs.CausePasses.{unlink_counts, unlinked_on, keeps_steps}
+use Rattle.cht_core.proofs.CauseResizes.{resize_begins, resize_found}
 use Rattle.cht_core.proofs.CauseUnlinks.{created_beside}
-use Rattle.cht_core.proofs.CauseWaits.{clean_ends_on}
+use Rattle.cht_core.proofs.CauseWaits.{work_ends_on}
 use Rattle.cht_core.proofs.Windows.{at_end, another_since, another_on, seen_before, whats_of}
 use Rattle.cht_core.proofs.CauseSteps.{open_below}
 use Rattle.cht_core.proofs.CauseWorks.{locked_by_other, too_many, clean_begins, on_pass, next_on, freed}
@@ -131,7 +133,7 @@ module _ (t : Table) (i : ℕ) (seen window : List Event) (load : ℕ) (f : Flow
         (keeps_steps t i seen window None refl h.0, omega (arith, none), tt)
     clean_found w (clean.Lock lock.LoadHead) word sound h says hears =
         where_it_is (λ (at : Locking). Comes w (clean.Lock lock.LoadHead) word Now'.now.place (locks_on w at)) (is_locked word) locking.Waits (locking.Goes (lock.LockHead word))
-        (λ locked. clean_ends_on t i seen window [] w (answer.PendingBucket w.cleaning.row w.cleaning.bucket) (inl (at_end seen window (IsLockedByOther t i w.cleaning.row w.cleaning.bucket)
+        (λ locked. work_ends_on t i seen window [] w.grace.raised (answer.PendingBucket w.cleaning.row w.cleaning.bucket) (inl (at_end seen window (IsLockedByOther t i w.cleaning.row w.cleaning.bucket)
         (locked_by_other t i w.cleaning.row w.cleaning.bucket word (seen ++ window) (says hears.0) hears.1 locked))))
         (λ free. (
           keeps_steps t i seen window None refl h.0,
@@ -143,7 +145,7 @@ module _ (t : Table) (i : ℕ) (seen window : List Event) (load : ℕ) (f : Flow
         where_it_is (λ (at : Locking). Comes w (clean.Lock (lock.LockHead head)) word load (locks_on w at)) (word == head) (locking.Locked (first_of word)) locking.Waits
         (λ same. on_pass t i seen (window ++ events_of i e) load (keeps_steps t i seen window e (gives_none w (clean.Lock (lock.LockHead head)) word tt) h.0)
         (record w { cleaning = begins_pass w.cleaning (first_of word) }) (passes_on (first_of word)) (unlinked_on t i seen window w (clean.Lock (lock.LockHead head)) (events_of i e) h.1))
-        (λ other. clean_ends_on t i seen window (events_of i e) w (answer.PendingBucket w.cleaning.row w.cleaning.bucket) (inr (elim hears [
+        (λ other. work_ends_on t i seen window (events_of i e) w.grace.raised (answer.PendingBucket w.cleaning.row w.cleaning.bucket) (inr (elim hears [
           | inl same ↦ absurd (not_equal word head other same)
           | inr moved ↦ another_since i load (IsOnBucket t w.cleaning.row w.cleaning.bucket) seen window h.2 moved
         ])))
@@ -162,7 +164,7 @@ module _ (t : Table) (i : ℕ) (seen window : List Event) (load : ℕ) (f : Flow
         where_it_is (λ (at : Grace × Gracing). Comes w (clean.Grace which grace.LoadSection) word load
         (graces_on (record w { grace = at.0; graces = counts_grace grace.LoadSection w.graces }) which at.1)) (waits_for w.grace.raised word)
         (w.grace, gracing.Waits) (if w.grace.next + 1 == t.shape.seats then (w.grace, gracing.Over) else (record w.grace { next = w.grace.next + 1 }, gracing.Goes))
-        (λ waits. clean_ends_on t i seen window [] w (answer.PendingSeat w.grace.next) (inl (open_below t i seen window w.grace word says waits)))
+        (λ waits. work_ends_on t i seen window [] w.grace.raised (answer.PendingSeat w.grace.next) (inl (open_below t i seen window w.grace word says waits)))
         (λ goes. either_way (λ (at : Grace × Gracing). Comes w (clean.Grace which grace.LoadSection) word load
         (graces_on (record w { grace = at.0; graces = counts_grace grace.LoadSection w.graces }) which at.1))
         (w.grace.next + 1 == t.shape.seats)
@@ -193,11 +195,18 @@ module _ (t : Table) (i : ℕ) (seen window : List Event) (load : ℕ) (f : Flow
             (let came = (clean_row shape c.along c.stage).next word in
             CleanCaused t i seen (window ++ events_of i (event_of [] (clean_row shape c.along c.stage).step word))
             (loaded_at (plan.Step (clean_row shape c.along c.stage).step) Now'.now.place load) came.0 came.1 came.2)
-    poll_found caller (work.Clean c) (Some a) word shape sound h says hears = clean_ends_on t i seen window [] c.along a h
-    poll_found caller (work.Resize r) a word shape sound h says hears = absurd h
+    poll_found caller (work.Clean c) (Some a) word shape sound h says hears = work_ends_on t i seen window [] c.along.grace.raised a h
+    poll_found caller (work.Resize r) None word shape sound h says hears = subst By (sym shape) (λ says. resize_found t i seen window load f r.direction r.along r.stage word h says hears) says
+      where
+        By : Shape → Type 0
+        By shape = WordSays t Now' f (resize_row shape r.direction r.along r.stage).step word →
+            (let came = (resize_row shape r.direction r.along r.stage).next word in
+            ResizeCaused t i seen (window ++ events_of i (event_of [] (resize_row shape r.direction r.along r.stage).step word))
+            (loaded_at (plan.Step (resize_row shape r.direction r.along r.stage).step) Now'.now.place load) came.0 came.1 came.2)
+    poll_found caller (work.Resize r) (Some a) word shape sound h says hears = work_ends_on t i seen window [] r.along.grace.raised a h
 
 -- a poll of a work that rests, by a seat that has the resize lock, begins
 pub poll_begins : (t : Table) (i : ℕ) (seen : List Event) (load : ℕ) (w : Work) → IsResting w → owner_of (now_in t seen).resizing ≡ Some i →
     PollCaused t i seen [] load (resumes w).0 (resumes w).1
 poll_begins t i seen load (work.Clean c) rests owner = clean_begins t i seen [] load (owner, refl) c.along c.stage rests
-poll_begins t i seen load (work.Resize r) rests owner = absurd rests
+poll_begins t i seen load (work.Resize r) rests owner = resize_begins t i seen [] load r.along r.stage rests

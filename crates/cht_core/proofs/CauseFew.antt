@@ -28,6 +28,7 @@ use Rattle.cht_core.specs.View.{View, IsOwnOf, KnowsOwn, Knows}
 use Rattle.cht_core.specs.Windows.{Another, IsTold}
 use Rattle.cht_core.proofs.CauseUnlinks.{created_beside}
 use Rattle.cht_core.proofs.CauseWorks.{too_many}
+use Rattle.cht_core.proofs.ResizeOwner.{resize_owner}
 
 unlinked_full : (t : Table) (i : ℕ) (seen window : List Event) (w : CleanAlong) (s : CleanStage) → HasUnlinked t i seen window w s → HasMade t i seen window w 0
 unlinked_full t i seen window w clean.LoadLevel h = omega (arith, h)
@@ -60,8 +61,8 @@ module _ (t : Table) (i : ℕ) (way : Way) (seen window : List Event) (load : �
 -- THE RESIZE LOCK
 
 owned_by_work : (m : Memory) (p : Past) (f : Flow) (i : ℕ) (w : Work) → KnowsWork m p f i w → owner_of p.now.resizing ≡ Some i
-owned_by_work m p f i (work.Clean c) knows = knows.0
-owned_by_work m p f i (work.Resize r) knows = absurd knows
+owned_by_work m p f i (work.Clean c) knows = knows.0.owner
+owned_by_work m p f i (work.Resize r) knows = resize_owner m p.now f i r.direction r.along r.stage knows
 
 -- a seat with an unfinished work has the resize lock
 pub work_has_lock : (t : Table) (m : Memory) (seat : ℕ → Option View) (log : List Event) (i : ℕ) (v : View) (own : Own) (w : Work) → Inv t m seat log → seat i ≡ Some v →

@@ -30,7 +30,8 @@ use Rattle.cht_core.specs.declared.seat.Seat.TheVariants as doing
 use Rattle.cht_core.specs.declared.table.Table.{Table}
 use Rattle.cht_core.specs.Causes.{now_in, BeginHears}
 use Rattle.cht_core.specs.CauseCalls.{IsAtHome, IsLateAlone, HearsHead, CallHears}
-use Rattle.cht_core.specs.Flow.{Flow, IsUsed, bucket_in}
+use Rattle.cht_core.specs.Flow.{Flow, IsUsed, ComesTo}
+use Rattle.cht_core.specs.Stage.{bucket_in}
 use Rattle.cht_core.specs.HeadKept.{WalkHeaded}
 use Rattle.cht_core.specs.KnowsCall.{KnowsStage, IsAtHead}
 use Rattle.cht_core.specs.Memory.{Memory, found, links}
@@ -39,9 +40,9 @@ use Rattle.cht_core.specs.Past.{Past, past_of}
 use Rattle.cht_core.specs.Search.{Walking}
 use Rattle.cht_core.specs.TableState.{IsTable}
 use Rattle.cht_core.proofs.CauseHeaded.{home_is}
-use Rattle.cht_core.proofs.FindStages.{head_loaded}
-use Rattle.cht_core.proofs.WalkWords.{head_plain}
-use Rattle.cht_core.proofs.Walks.{none_ahead, routed_used, begins_walk, passes_node}
+use Rattle.cht_core.proofs.FindStages.{head_loaded, plain_comes, new_head_comes}
+use Rattle.cht_core.proofs.Stages.{comes_used, row_of_used}
+use Rattle.cht_core.proofs.Walks.{none_ahead, begins_walk, passes_node}
 
 -- the word is the one that the next step of a plan finds
 abbrev pub IsFound : Memory → Plan → ℕ → Type 0
@@ -61,31 +62,35 @@ module _ (t : Table) (m : Memory) (f : Flow) (i load : ℕ) (passed : List ℕ) 
   Now' = past_of t.shape.min_level log
 
   module _ (q : Asked) (w : Along) (seeds : q.seed ≡ (now_in t log).seed) (kinds : q.kind ≡ t.kind) where
-    at_home : (since : ℕ) → w.walk.row ≡ (now_in t log).level → w.walk.bucket ≡ bucket_in w.walk.row (hash_of q.seed q.text) → IsAtHome (now_in t log) f q.text w.walk
-    at_home since routed at =
-        (routed_used t m Now' f table since (hash_of q.seed q.text) w.walk.row w.walk.bucket routed at, home_is t log q w.walk.row w.walk.bucket seeds routed at)
+    at_home : ComesTo (now_in t log) f (hash_of q.seed q.text) w.walk.row → w.walk.bucket ≡ bucket_in w.walk.row (hash_of q.seed q.text) → IsAtHome (now_in t log) f q.text w.walk
+    at_home to at =
+        let used : IsUsed (now_in t log) f w.walk.row w.walk.bucket =
+        subst (IsUsed (now_in t log) f w.walk.row) (sym at) (comes_used (now_in t log) f (hash_of q.seed q.text) w.walk.row table.chains.within to) in
+        (used, row_of_used (now_in t log) f w.walk.row w.walk.bucket table.chains.within table.whole used, home_is t log q w.walk.row w.walk.bucket seeds at)
 
-    head_hears : (word : ℕ) → word ≡ m (place.Head w.walk.row w.walk.bucket) → IsAtHead (now_in t log) f i (hash_of q.seed q.text) w.walk → HearsHead Now' f q.text w.walk word
-    head_hears word is h =
+    head_hears : (word : ℕ) → word ≡ m (place.Head w.walk.row w.walk.bucket) → IsAtHead (now_in t log) f i (hash_of q.seed q.text) w.walk → ComesTo (now_in t log) f (hash_of q.seed q.text) w.walk.row
+        → HearsHead Now' f q.text w.walk word
+    head_hears word is h to =
         let hash = hash_of q.seed q.text in
-        let loaded = head_loaded t m Now' f table i hash w.walk h in
+        let loaded = head_loaded t m Now' f table i hash w.walk to h.3 in
         let path : IsPath (links m) (first_of word) (f.chain w.walk.row (bucket_in w.walk.row hash)) =
         subst (λ (b : ℕ). IsPath (links m) (first_of word) (f.chain w.walk.row b)) h.3
         (subst (λ (x : ℕ). IsPath (links m) (first_of x) (f.chain w.walk.row w.walk.bucket)) (sym is) loaded.1) in
         let walking : Walking m (now_in t log) f i q.text hash w.walk.row (now_in t log).place (first_of word) [] (first_of word) =
-        begins_walk t m Now' f table i h.0 q.text hash w.walk.row (first_of word) h.1 (ap (λ (seed : ℕ). hash_of seed q.text) seeds) h.2 path in
-        (at_home h.0.place h.2 h.3, λ end. late_at_end m (now_in t log) f i q.text hash w.walk.row (now_in t log).place (first_of word) [] (first_of word) walking end)
+        begins_walk t m Now' f table i h.0 q.text hash w.walk.row (first_of word) h.1 (ap (λ (seed : ℕ). hash_of seed q.text) seeds) h.2 to path in
+        (at_home to h.3, λ end. late_at_end m (now_in t log) f i q.text hash w.walk.row (now_in t log).place (first_of word) [] (first_of word) walking end)
 
-    plain_head : (word : ℕ) → word ≡ m (place.Head w.walk.row w.walk.bucket) → IsUsed (now_in t log) f w.walk.row w.walk.bucket → is_redirected word ≡ false
-    plain_head word is used =
-        let (first, head, path) = table.heads.paths w.walk.row w.walk.bucket used in
-        ap is_redirected (is ∙ head) ∙ head_plain first ((now_in t log).lock w.walk.row w.walk.bucket)
+    -- the head of a walk that is not redirected is one to which callers come
+    comes_to_plain : (word : ℕ) → word ≡ m (place.Head w.walk.row w.walk.bucket) → IsAtHead (now_in t log) f i (hash_of q.seed q.text) w.walk → is_redirected word ≡ false
+        → ComesTo (now_in t log) f (hash_of q.seed q.text) w.walk.row
+    comes_to_plain word is h plain = plain_comes t m Now' f table i (hash_of q.seed q.text) w.walk h (ap is_redirected (sym is) ∙ plain)
 
     -- of a try call
     pub call_hears : (s : CallStage) (word : ℕ) → KnowsStage m Now' f i load passed q w s → WalkHeaded t m i load log q.text w.walk s → IsFound m (plan_at q w s) word →
         CallHears t Now' f i load log q w s word
-    call_hears (stage.Find find.LoadHead) word knows head is = head_hears word is knows.0
-    call_hears (stage.Find find.LoadNewHead) word knows head is = head_hears word is knows.0
+    call_hears (stage.Find find.LoadHead) word knows head is = λ plain. head_hears word is knows.0 (comes_to_plain word is knows.0 plain)
+    call_hears (stage.Find find.LoadNewHead) word knows head is =
+        head_hears word is (knows.0.0, knows.0.1, knows.0.2, knows.0.3) (new_head_comes t m Now' f table i (hash_of q.seed q.text) w.walk knows.0)
     call_hears (stage.Find find.LoadLevel) word knows head is = tt
     call_hears (stage.Find find.LoadNewLevel) word knows head is = tt
     call_hears (stage.Find (find.Enter x)) word knows head is = tt
@@ -98,8 +103,14 @@ module _ (t : Table) (m : Memory) (f : Flow) (i load : ℕ) (passed : List ℕ) 
     call_hears (stage.Node (node.Text x at)) word knows head is = tt
     call_hears (stage.Node (node.Take x count)) word knows head is = tt
     call_hears (stage.Insert (insert.Create h)) word knows head is =
-        let home = at_home knows.0.searched.section.place knows.0.searched.routed knows.0.bucket in
-        (home, plain_head word is home.0, elim (head.says knows.0.open_head) [ inl same ↦ inl (is ∙ same) | inr since ↦ inr since ])
+        let at : IsAtHead (now_in t log) f i (hash_of q.seed q.text) w.walk = (knows.0.searched.section, knows.0.searched.inside, knows.0.searched.routed, knows.0.bucket) in (
+          λ plain. at_home (comes_to_plain word is at plain) knows.0.bucket,
+          λ redirected. elim (head.turned (ap is_redirected (sym is) ∙ redirected)) [
+            | inl marked ↦ absurd (let clash : false ≡ true = sym knows.0.plain ∙ marked in cc)
+            | inr since ↦ since
+          ],
+          elim (head.says knows.0.open_head) [ inl same ↦ inl (is ∙ same) | inr since ↦ inr since ],
+        )
     call_hears (stage.Insert (insert.Claim slot tried)) word knows head is = tt
     call_hears (stage.Insert (insert.OwnCount slot)) word knows head is = tt
     call_hears (stage.Insert (insert.PutMeta h)) word knows head is = tt

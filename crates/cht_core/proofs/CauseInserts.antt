@@ -22,13 +22,13 @@ use Rattle.call_machine.specs.Insert.{next_slot, not_claimed, puts_from, after_l
 use Rattle.call_machine.specs.Leave.{leaves_with}
 use Rattle.call_machine.specs.Sought.{has_word}
 use Rattle.cht_core.specs.declared.table.Table.{Table}
-use Rattle.cht_core.specs.Causes.{now_in, PlanSays, loaded_at}
+use Rattle.cht_core.specs.Causes.{now_in, PlanSays, loaded_at, IsRowIn}
 use Rattle.cht_core.specs.CauseCalls.{Way, Walks, IsTaken, IsTextLocked, IsOnHome, LostBy, WalkEnds, IsIntern, IsTried, CallCaused, CallHears}
 use Rattle.cht_core.specs.Flow.{Flow}
 use Rattle.cht_core.specs.Past.{Past, past_of}
 use Rattle.cht_core.specs.Slots.{claim_word}
 use Rattle.cht_core.specs.Windows.{Somewhere}
-use Rattle.cht_core.proofs.Windows.{at_end, another_since}
+use Rattle.cht_core.proofs.Windows.{at_end, another_since, somewhere_since}
 use Rattle.cht_core.proofs.CauseWalks.{home_locked, of_walk, leaving}
 
 -- going round: behind the next slot are the slot and those that were tried before it
@@ -109,15 +109,18 @@ module _ (t : Table) (i : ℕ) (way : Way) (seen window : List Event) (f : Flow)
         h.3,
         λ x later. one_more slot tried h.4 taken x
             (tried_next t.shape.slots slot tried x inside (subst (λ slots. IsTried t.shape.slots (next_slot slots slot) (tried + 1) x) sizes later)),
+        h.5,
       ))
 
-  putting : (load : ℕ) (w : Along) (h : Handle) (at : ℕ) → IsIntern q.goal → length seen ≤ load → CallCaused t i way seen window load q w (stage.Insert (puts_from q.text h at))
-  putting load w h at intern began = either_way (λ s. CallCaused t i way seen window load q w (stage.Insert s)) (has_word q.text at) (insert.PutText h at) (insert.PutLink h)
-      (walks, intern, began) (walks, intern, began)
+  putting : (load : ℕ) (w : Along) (h : Handle) (at : ℕ) → IsIntern q.goal → length seen ≤ load → Somewhere (IsRowIn t w.walk.row) seen window →
+      CallCaused t i way seen window load q w (stage.Insert (puts_from q.text h at))
+  putting load w h at intern began row = either_way (λ s. CallCaused t i way seen window load q w (stage.Insert s)) (has_word q.text at) (insert.PutText h at) (insert.PutLink h)
+      (walks, intern, began, row) (walks, intern, began, row)
 
-  linking : (load : ℕ) (w : Along) (kept : Option Handle) (h : Handle) → IsIntern q.goal → length seen ≤ load → CallCaused t i way seen window load q w (stage.Insert (after_link kept h))
-  linking load w None h intern began = (walks, intern, began)
-  linking load w (Some k) h intern began = (walks, intern, began)
+  linking : (load : ℕ) (w : Along) (kept : Option Handle) (h : Handle) → IsIntern q.goal → length seen ≤ load → Somewhere (IsRowIn t w.walk.row) seen window →
+      CallCaused t i way seen window load q w (stage.Insert (after_link kept h))
+  linking load w None h intern began row = (walks, intern, began, row)
+  linking load w (Some k) h intern began row = (walks, intern, began, row)
 
   -- another head was found
   beaten : (load : ℕ) (w : Along) (h : Handle) (word : ℕ) (goal : Goal) → q.goal ≡ goal → IsIntern goal → (q.goal ≡ Intern → WalkEnds t i q seen window (lost_head word)) →
@@ -133,11 +136,11 @@ module _ (t : Table) (i : ℕ) (way : Way) (seen window : List Event) (f : Flow)
   insert_found load w (insert.Claim slot tried) word h says hears inside =
       where_it_is (λ (at : Along × CallStage). CallCaused t i way seen window load q at.0 at.1) (word == 0)
       (record w { cursor = next_slot q.shape.slots slot }, stage.Insert (insert.OwnCount slot)) (w, not_claimed q w slot tried)
-      (λ free. (h.0, h.1, h.2)) (λ taken. not_free load w slot tried inside h (taken_word ((now_in t (seen ++ window)).slot slot) word says (not_equal word 0 taken)))
+      (λ free. (h.0, h.1, h.2, h.5)) (λ taken. not_free load w slot tried inside h (taken_word ((now_in t (seen ++ window)).slot slot) word says (not_equal word 0 taken)))
   insert_found load w (insert.OwnCount slot) word h says hears inside = h
-  insert_found load w (insert.PutMeta k) word h says hears inside = putting load w k 0 h.1 h.2
-  insert_found load w (insert.PutText k at) word h says hears inside = putting load w k (at + 1) h.1 h.2
-  insert_found load w (insert.PutLink k) word h says hears inside = linking load w w.kept k h.1 h.2
+  insert_found load w (insert.PutMeta k) word h says hears inside = putting load w k 0 h.1 h.2 h.3
+  insert_found load w (insert.PutText k at) word h says hears inside = putting load w k (at + 1) h.1 h.2 h.3
+  insert_found load w (insert.PutLink k) word h says hears inside = linking load w w.kept k h.1 h.2 h.3
   insert_found load w (insert.PutCount k) word h says hears inside = h
   insert_found load w (insert.Create k) word h says hears inside =
       where_it_is (λ (at : Along × CallStage). CallCaused t i way seen window load q at.0 at.1) (word == w.walk.head)
@@ -147,10 +150,14 @@ module _ (t : Table) (i : ℕ) (way : Way) (seen window : List Event) (f : Flow)
       again : q.goal ≡ Intern → word ≢ w.walk.head → WalkEnds t i q seen window answer.Again
       again is other = subst (λ g. LostBy g t i q.text seen window) (sym is) (elim hears.2 [
         | inl same ↦ absurd (other same)
-        | inr moved ↦ inr (another_since i load (IsOnHome t q.text) seen window h.2 moved)
+        | inr moved ↦ inr (w.walk.row, h.3, another_since i load (IsOnHome t w.walk.row q.text) seen window h.2 moved)
       ])
+
+      by_mark : (is_locked word || is_redirected word) ≡ true → (redirected : Bool) → is_redirected word ≡ redirected → Somewhere (IsTextLocked t q.text) seen window
+      by_mark mark true is = somewhere_since load (IsTextLocked t q.text) seen window h.2 (hears.1 is)
+      by_mark mark false is = at_end seen window (IsTextLocked t q.text) (home_locked t f (seen ++ window) q.text w.walk word (hears.0 is) says (marked (is_locked word) (is_redirected word) mark is))
 
       lost : q.goal ≡ Intern → word ≢ w.walk.head → WalkEnds t i q seen window (lost_head word)
       lost is other = where_it_is (WalkEnds t i q seen window) (is_locked word || is_redirected word) answer.Locked answer.Again
-          (λ mark. at_end seen window (IsTextLocked t q.text) (home_locked t f (seen ++ window) q.text w.walk word hears.0 says (marked (is_locked word) (is_redirected word) mark hears.1)))
+          (λ mark. by_mark mark (is_redirected word) refl)
           (λ plain. again is other)

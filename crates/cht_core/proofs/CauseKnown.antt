@@ -1,10 +1,13 @@
 -- What any machine knows as it finds a word, from what the words show and what its seat knows and owes.
-use Rattle.std.proofs.Common.{◌≡◌, ℕ, List, Option, Some, None, refl, sym, ap, subst, ◌∙◌, inl, inr}
+use Rattle.std.proofs.Common.{◌≡◌, ℕ, true, false, List, Option, Some, None, refl, sym, ap, subst, ◌∙◌, inl, inr}
+use Rattle.std.specs.Option.{option_to_list}
 use Rattle.std.specs.Prelude.{IfSome}
+use Rattle.text_words.specs.Hash.{hash_of}
 use Rattle.table_shape.specs.declared.shape.Shape.{Shape}
 use Rattle.intern_log.specs.declared.event.Event.{Event}
 use Rattle.intern_log.specs.SlotBuckets.{phase_bucket}
 use Rattle.atomic_step.specs.declared.answer.Answer.{Answer}
+use Rattle.atomic_step.specs.Monitor.{is_held}
 use Rattle.atomic_step.specs.declared.plan.Plan.TheVariants as plan
 use Rattle.atomic_step.specs.declared.step.Step.{Step}
 use Rattle.call_machine.specs.declared.caller.Caller.{Caller}
@@ -30,43 +33,47 @@ use Rattle.cht_core.specs.Caused.{Hears}
 use Rattle.cht_core.specs.Causes.{CleanHears, PollHears}
 use Rattle.cht_core.specs.Flow.{Flow}
 use Rattle.cht_core.specs.HeadKept.{CleanHeaded, WorkHeaded, Headed}
+use Rattle.cht_core.specs.KnowsResize.{Resizing, NoHead}
 use Rattle.cht_core.specs.KnowsWork.{KnowsCleaning, KnowsWork}
 use Rattle.cht_core.specs.Memory.{Memory, found}
 use Rattle.cht_core.specs.Owes.{Owes, locked_in_work}
 use Rattle.cht_core.specs.Past.{Past, past_of}
+use Rattle.cht_core.specs.Stage.{Quiet}
 use Rattle.cht_core.specs.TableState.{IsTable}
 use Rattle.cht_core.specs.View.{IsOfSeat, KnowsMachine}
+use Rattle.cht_core.proofs.CauseResizeKnown.{resize_hears}
 use Rattle.cht_core.proofs.CauseHears.{IsFound, call_hears, begin_hears}
+use Rattle.cht_core.proofs.Stages.{quiet_used, quiet_home}
 
 module _ (t : Table) (m : Memory) (f : Flow) (i load : ℕ) (log : List Event) where
   abbrev Now' : Past
   Now' = past_of t.shape.min_level log
 
-  clean_hears : IsTable t m Now' f → (shape : Shape) (w : CleanAlong) (s : CleanStage) (word : ℕ) → IsSoundClean shape w s → KnowsCleaning m Now' f i w s →
-      ((row bucket : ℕ) → Now'.now.lock row bucket ≡ Some i → cleans.locked_at w.cleaning s ≡ Some (row, bucket)) → CleanHeaded t m i load log w s None →
+  clean_hears : IsTable t m Now' f → (shape : Shape) (w : CleanAlong) (s : CleanStage) (word : ℕ) → IsSoundClean shape w s → Resizing Now'.now f i Now'.now.level Quiet NoHead → KnowsCleaning m Now' f i w s →
+      ((row bucket : ℕ) → Now'.now.lock row bucket ≡ Some i → is_held row bucket (option_to_list (cleans.locked_at w.cleaning s)) ≡ true) → CleanHeaded t m i load log w s None →
       IsFound m (plan.Step (clean_row shape w s).step) word →
       CleanHears t Now' f i load log w s word
-  clean_hears table shape w (clean.Lock lock.LoadHead) word sound knows owes head is =
-      ((knows.0, sound.cleaning.bucket), λ mine. (let clash : None ≡ Some (w.cleaning.row, w.cleaning.bucket) = owes w.cleaning.row w.cleaning.bucket mine in cc))
-  clean_hears table shape w (clean.Lock (lock.LockHead h)) word sound knows owes head is = elim (head.says (sound.step 0).1) [ inl same ↦ inl (is ∙ same) | inr since ↦ inr since ]
-  clean_hears table shape w clean.LoadLevel word sound knows owes head is = tt
-  clean_hears table shape w (clean.Pass (pass.Unlink s g next)) word sound knows owes head is =
+  clean_hears table shape w (clean.Lock lock.LoadHead) word sound owner knows owes head is =
+      (quiet_used Now'.now f w.cleaning.row w.cleaning.bucket owner.at_stage knows.0 sound.cleaning.bucket, λ mine. (let clash : false ≡ true = owes w.cleaning.row w.cleaning.bucket mine in cc))
+  clean_hears table shape w (clean.Lock (lock.LockHead h)) word sound owner knows owes head is = elim (head.says (sound.step 0).1) [ inl same ↦ inl (is ∙ same) | inr since ↦ inr since ]
+  clean_hears table shape w clean.LoadLevel word sound owner knows owes head is = tt
+  clean_hears table shape w (clean.Pass (pass.Unlink s g next)) word sound owner knows owes head is =
       let (text, h, at, linked, home) = table.chains.on_linked w.cleaning.row w.cleaning.bucket s knows.1.0.0.used knows.1.0.1 in
-      ap (phase_bucket Now'.now w.cleaning.row) linked ∙ ap (λ b. Some b) home
-  clean_hears table shape w (clean.Pass (pass.LoadCount s)) word sound knows owes head is = tt
-  clean_hears table shape w (clean.Pass (pass.LoadLink s dead)) word sound knows owes head is = tt
-  clean_hears table shape w clean.UnlockHead word sound knows owes head is = tt
-  clean_hears table shape w (clean.Grace which s) word sound knows owes head is = tt
-  clean_hears table shape w (clean.Free which s) word sound knows owes head is = tt
-  clean_hears table shape w clean.GiveResizeLock word sound knows owes head is = tt
+      ap (phase_bucket Now'.now w.cleaning.row) linked ∙ ap (λ b. Some b) (quiet_home Now'.now f w.cleaning.row w.cleaning.bucket (hash_of Now'.now.seed text) owner.at_stage home)
+  clean_hears table shape w (clean.Pass (pass.LoadCount s)) word sound owner knows owes head is = tt
+  clean_hears table shape w (clean.Pass (pass.LoadLink s dead)) word sound owner knows owes head is = tt
+  clean_hears table shape w clean.UnlockHead word sound owner knows owes head is = tt
+  clean_hears table shape w (clean.Grace which s) word sound owner knows owes head is = tt
+  clean_hears table shape w (clean.Free which s) word sound owner knows owes head is = tt
+  clean_hears table shape w clean.GiveResizeLock word sound owner knows owes head is = tt
 
   poll_hears : IsTable t m Now' f → (caller : Caller) (w : Work) (a : Option Answer) (word : ℕ) → IsSoundWork caller.shape w → IfSome (work_left w a) (KnowsWork m Now' f i) →
-      ((row bucket : ℕ) → Now'.now.lock row bucket ≡ Some i → locked_in_work (work_left w a) ≡ Some (row, bucket)) → WorkHeaded t m i load log w a →
+      ((row bucket : ℕ) → Now'.now.lock row bucket ≡ Some i → is_held row bucket (locked_in_work (work_left w a)) ≡ true) → WorkHeaded t m i load log w a →
       IsFound m (poll_plan (polling caller (w, a))) word →
       PollHears t Now' f i load log w a word
-  poll_hears table caller (work.Clean c) None word sound knows owes head is = clean_hears table caller.shape c.along c.stage word sound knows.1 owes head is
+  poll_hears table caller (work.Clean c) None word sound knows owes head is = clean_hears table caller.shape c.along c.stage word sound knows.0 knows.1 owes head is
   poll_hears table caller (work.Clean c) (Some a) word sound knows owes head is = tt
-  poll_hears table caller (work.Resize r) None word sound knows owes head is = absurd knows
+  poll_hears table caller (work.Resize r) None word sound knows owes head is = resize_hears t m f i load log caller.shape r.direction r.along r.stage word sound knows owes head is
   poll_hears table caller (work.Resize r) (Some a) word sound knows owes head is = tt
 
   part_hears : (passed : List ℕ) (mach : Machine) (word : ℕ) → IsTable t m Now' f → IsOfSeat t Now'.now i mach → KnowsMachine m Now' f i load passed mach → Owes Now' i (doing.Running mach) →

@@ -45,7 +45,7 @@ use Rattle.call_machine.specs.Node.{end_of, comes_to, compares_from, passes, met
 use Rattle.call_machine.specs.Sought.{meta_of, has_word}
 use Rattle.cht_core.specs.declared.table.Table.{Table}
 use Rattle.cht_core.specs.Causes.{loaded_at}
-use Rattle.cht_core.specs.CauseCalls.{IsOnHome}
+use Rattle.cht_core.specs.CauseCalls.{IsOnHome, IsTextLocked}
 use Rattle.cht_core.specs.HeadKept.{HeadKept, WalkHeaded}
 use Rattle.cht_core.specs.Memory.{Memory, IsMade}
 use Rattle.cht_core.proofs.CauseHeads.{kept_by_own, kept_from_load}
@@ -58,7 +58,7 @@ IsMadeBy m m' (plan.Answered a) = Unit {0}
 
 module _ (t : Table) (m m' : Memory) (i : ℕ) (log more : List Event) (q : Asked) where
   abbrev Kept : ℕ → Walk → Type 0
-  Kept load walk = HeadKept m' i walk.row walk.bucket load walk.head (IsOnHome t q.text) (log ++ more)
+  Kept load walk = HeadKept m' i walk.row walk.bucket load walk.head (IsOnHome t walk.row q.text) (IsTextLocked t q.text) (log ++ more)
 
   abbrev Has : ℕ → Walk → CallStage → Type 0
   Has load walk s = WalkHeaded t m' i load (log ++ more) q.text walk s
@@ -118,8 +118,8 @@ module _ (t : Table) (m m' : Memory) (i : ℕ) (log more : List Event) (q : Aske
 
   module _ (now load : ℕ) (w : Along) (place_is : now ≡ length log) where
     loaded : (word : ℕ) → IsMadeBy m m' (plan_at q w (stage.Find find.LoadHead)) → IsFound m (plan_at q w (stage.Find find.LoadHead)) word → Kept now (record w.walk { head = word })
-    loaded word made is = subst (λ head. HeadKept m' i w.walk.row w.walk.bucket now head (IsOnHome t q.text) (log ++ more)) (sym is)
-        (kept_from_load m m' i w.walk.row w.walk.bucket now log more (IsOnHome t q.text) made place_is)
+    loaded word made is = subst (λ head. HeadKept m' i w.walk.row w.walk.bucket now head (IsOnHome t w.walk.row q.text) (IsTextLocked t q.text) (log ++ more)) (sym is)
+        (kept_from_load m m' i w.walk.row w.walk.bucket now log more (IsOnHome t w.walk.row q.text) (IsTextLocked t q.text) made place_is)
 
     -- finding the head
     find_headed : (s : FindStage) (word : ℕ) → IsMadeBy m m' (plan_at q w (stage.Find s)) → IsFound m (plan_at q w (stage.Find s)) word →
@@ -136,17 +136,17 @@ module _ (t : Table) (m m' : Memory) (i : ℕ) (log more : List Event) (q : Aske
     node_headed : (s : NodeStage) (word : ℕ) → IsMadeBy m m' (plan_at q w (stage.Node s)) → WalkHeaded t m i load log q.text w.walk (stage.Node s) →
         Has (loaded_at (plan_at q w (stage.Node s)) now load) (next_at q w (stage.Node s) word).0.walk (next_at q w (stage.Node s) word).1
     node_headed (node.Meta x) word made h =
-        let k : Kept load w.walk = kept_by_own m m' i _ log more w.walk.row w.walk.bucket load w.walk.head (IsOnHome t q.text) made (λ is. absurd (cc)) h in
+        let k : Kept load w.walk = kept_by_own m m' i _ log more w.walk.row w.walk.bucket load w.walk.head (IsOnHome t w.walk.row q.text) (IsTextLocked t q.text) made (λ is. absurd (cc)) h in
         either_way (λ n. Has load w.walk (stage.Node n)) (word == meta_word (meta_of q.seed q.text)) (compares_from q.text x 0) (node.Link x) (comparing load w.walk k x 0) k
     node_headed (node.Text x at) word made h =
-        let k : Kept load w.walk = kept_by_own m m' i _ log more w.walk.row w.walk.bucket load w.walk.head (IsOnHome t q.text) made (λ is. absurd (cc)) h in
+        let k : Kept load w.walk = kept_by_own m m' i _ log more w.walk.row w.walk.bucket load w.walk.head (IsOnHome t w.walk.row q.text) (IsTextLocked t q.text) made (λ is. absurd (cc)) h in
         either_way (λ n. Has load w.walk (stage.Node n)) (word == word_at q.text at) (compares_from q.text x (at + 1)) (node.Link x) (comparing load w.walk k x (at + 1)) k
     node_headed (node.Count x) word made h =
-        let k : Kept load w.walk = kept_by_own m m' i _ log more w.walk.row w.walk.bucket load w.walk.head (IsOnHome t q.text) made (λ is. absurd (cc)) h in
+        let k : Kept load w.walk = kept_by_own m m' i _ log more w.walk.row w.walk.bucket load w.walk.head (IsOnHome t w.walk.row q.text) (IsTextLocked t q.text) made (λ is. absurd (cc)) h in
         either_way (Has load w.walk) (holds_of word == 0) (stage.Node (node.Link x)) (matches q w q.kind x word) k (matching load w.walk w q.kind x word)
     node_headed (node.Link x) word made h =
-        let k : Kept load w.walk = kept_by_own m m' i _ log more w.walk.row w.walk.bucket load w.walk.head (IsOnHome t q.text) made (λ is. absurd (cc)) h in
-        coming load (passes w.walk) w (record { early = k.early; says = k.says }) w.walk.head (node_of word)
+        let k : Kept load w.walk = kept_by_own m m' i _ log more w.walk.row w.walk.bucket load w.walk.head (IsOnHome t w.walk.row q.text) (IsTextLocked t q.text) made (λ is. absurd (cc)) h in
+        coming load (passes w.walk) w (record { early = k.early; says = k.says; turned = k.turned }) w.walk.head (node_of word)
     node_headed (node.Take x count) word made h =
         either_way (Has load w.walk) (word == count) (leaves_with w.kept (met Counted q.goal (handle_at x count))) (loses_with q.goal w.kept answer.Again)
         (leaving load w.walk w.kept (met Counted q.goal (handle_at x count))) (losing load w.walk q.goal w.kept answer.Again)
@@ -155,15 +155,15 @@ module _ (t : Table) (m m' : Memory) (i : ℕ) (log more : List Event) (q : Aske
     insert_headed : (s : InsertStage) (word : ℕ) → IsMadeBy m m' (plan_at q w (stage.Insert s)) → WalkHeaded t m i load log q.text w.walk (stage.Insert s) →
         Has (loaded_at (plan_at q w (stage.Insert s)) now load) (next_at q w (stage.Insert s) word).0.walk (next_at q w (stage.Insert s) word).1
     insert_headed (insert.Claim slot tried) word made h =
-        let k : Kept load w.walk = kept_by_own m m' i _ log more w.walk.row w.walk.bucket load w.walk.head (IsOnHome t q.text) made (λ is. absurd (cc)) h in
+        let k : Kept load w.walk = kept_by_own m m' i _ log more w.walk.row w.walk.bucket load w.walk.head (IsOnHome t w.walk.row q.text) (IsTextLocked t q.text) made (λ is. absurd (cc)) h in
         either_way (λ (at : Along × CallStage). Has load at.0.walk at.1) (word == 0) (record w { cursor = next_slot q.shape.slots slot }, stage.Insert (insert.OwnCount slot))
         (w, not_claimed q w slot tried) k
         (not_claiming load w slot tried k)
-    insert_headed (insert.OwnCount slot) word made h = kept_by_own m m' i _ log more w.walk.row w.walk.bucket load w.walk.head (IsOnHome t q.text) made (λ is. absurd (cc)) h
-    insert_headed (insert.PutMeta k) word made h = kept_by_own m m' i _ log more w.walk.row w.walk.bucket load w.walk.head (IsOnHome t q.text) made (λ is. absurd (cc)) h
-    insert_headed (insert.PutText k at) word made h = kept_by_own m m' i _ log more w.walk.row w.walk.bucket load w.walk.head (IsOnHome t q.text) made (λ is. absurd (cc)) h
-    insert_headed (insert.PutLink k) word made h = kept_by_own m m' i _ log more w.walk.row w.walk.bucket load w.walk.head (IsOnHome t q.text) made (λ is. absurd (cc)) h
-    insert_headed (insert.PutCount k) word made h = kept_by_own m m' i _ log more w.walk.row w.walk.bucket load w.walk.head (IsOnHome t q.text) made (λ is. absurd (cc)) h
+    insert_headed (insert.OwnCount slot) word made h = kept_by_own m m' i _ log more w.walk.row w.walk.bucket load w.walk.head (IsOnHome t w.walk.row q.text) (IsTextLocked t q.text) made (λ is. absurd (cc)) h
+    insert_headed (insert.PutMeta k) word made h = kept_by_own m m' i _ log more w.walk.row w.walk.bucket load w.walk.head (IsOnHome t w.walk.row q.text) (IsTextLocked t q.text) made (λ is. absurd (cc)) h
+    insert_headed (insert.PutText k at) word made h = kept_by_own m m' i _ log more w.walk.row w.walk.bucket load w.walk.head (IsOnHome t w.walk.row q.text) (IsTextLocked t q.text) made (λ is. absurd (cc)) h
+    insert_headed (insert.PutLink k) word made h = kept_by_own m m' i _ log more w.walk.row w.walk.bucket load w.walk.head (IsOnHome t w.walk.row q.text) (IsTextLocked t q.text) made (λ is. absurd (cc)) h
+    insert_headed (insert.PutCount k) word made h = kept_by_own m m' i _ log more w.walk.row w.walk.bucket load w.walk.head (IsOnHome t w.walk.row q.text) (IsTextLocked t q.text) made (λ is. absurd (cc)) h
     insert_headed (insert.Create k) word made h =
         either_way (λ (at : Along × CallStage). Has load at.0.walk at.1) (word == w.walk.head) (record w { kept = None }, leaves_with None (answer.Created k))
         (not_created w q.goal k (lost_head word)) tt

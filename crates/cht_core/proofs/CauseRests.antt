@@ -1,6 +1,6 @@
 -- Where a poll of a clean has answered its work rests; a call begins with nothing known of a head; and a text that is too long has no entry.
 use Rattle.std.proofs.Common.{◌≡◌, ℕ, ◌+◌, ◌*◌, ◌^◌, ◌/◌, ◌≤◌, ◌==◌, min, nat_lt, true, if◌then◌else◌, List, [], ◌∷◌, length, Option, Some, None}
-use Rattle.std.proofs.Common.{refl, subst, arith}
+use Rattle.std.proofs.Common.{refl, arith}
 use Rattle.std.specs.Prelude.{IfSome}
 use Rattle.std.proofs.lemmas.Bool.Decides.{nat_tests}
 use Rattle.marked_word.specs.Head.{is_locked, first_of}
@@ -12,6 +12,7 @@ use Rattle.intern_log.specs.TextMap.{entry_of}
 use Rattle.atomic_step.specs.declared.answer.Answer.{Answer}
 use Rattle.atomic_step.specs.Turn.{next_in}
 use Rattle.atomic_step.proofs.Choices.{either_way}
+use Rattle.call_machine.specs.declared.begin.Left.{Left}
 use Rattle.call_machine.specs.declared.begin.Left.TheVariants as left
 use Rattle.call_machine.specs.declared.call.Call.{Call}
 use Rattle.call_machine.specs.declared.call.Call.TheVariants as call
@@ -40,11 +41,12 @@ use Rattle.call_machine.specs.declared.stage.Goal.TheVariants as goals
 use Rattle.call_machine.specs.declared.work.Work.{Work}
 use Rattle.call_machine.specs.declared.work.Work.TheVariants as work
 use Rattle.call_machine.specs.BeginCall as calls
-use Rattle.call_machine.specs.Clean.{begun_clean, Went, goes, waits_at, raises, locks_on, counts_pass, ends, next_bucket, graces_on, frees_on, clean_row, resumed}
+use Rattle.call_machine.specs.Clean.{Went, goes, waits_at, raises, locks_on, counts_pass, ends, next_bucket, graces_on, frees_on, clean_row, resumed}
 use Rattle.call_machine.specs.Grace.{held_back, counts_grace}
 use Rattle.call_machine.specs.Machine.{caller_of, starts, started, begun_grace_poll, begun_work_poll}
 use Rattle.call_machine.specs.Pass.{free_row}
 use Rattle.call_machine.specs.Poll.{poll_turn}
+use Rattle.call_machine.specs.Resize as resizes
 use Rattle.call_machine.specs.Sought.{is_too_long}
 use Rattle.call_machine.specs.Work.{begun_work, resumes}
 use Rattle.cht_core.specs.declared.table.Table.{Table}
@@ -54,6 +56,8 @@ use Rattle.cht_core.specs.HeadKept.{WalkHeaded, CleanHeaded, Headed}
 use Rattle.cht_core.specs.Memory.{Memory}
 use Rattle.cht_core.specs.Past.{Past}
 use Rattle.cht_core.specs.TableState.{IsTable}
+use Rattle.cht_core.proofs.CauseAways.{away_headed}
+use Rattle.cht_core.proofs.ResizeTurns.{away_so, resize_rests}
 
 -- RESTING WORKS
 
@@ -116,16 +120,19 @@ clean_rests shape w clean.GiveResizeLock word = tt
 pub poll_rests : (caller : Caller) (w : Work) (a : Option Answer) (word : ℕ) → Rests w a → Rests (next_in (w, a) (poll_turn caller (w, a)) word).0 (next_in (w, a) (poll_turn caller (w, a)) word).1
 poll_rests caller (work.Clean c) None word h = clean_rests caller.shape c.along c.stage word
 poll_rests caller (work.Clean c) (Some a) word h = h
-poll_rests caller (work.Resize r) None word h = tt
-poll_rests caller (work.Resize r) (Some a) word h = tt
+poll_rests caller (work.Resize r) None word h = resize_rests caller.shape r.direction r.along r.stage word
+poll_rests caller (work.Resize r) (Some a) word h = h
 
--- a clean that was begun rests
-pub begun_rests : (shape : Shape) (w : Work) → begun_work shape left.Clean ≡ Some w → IsResting w
-begun_rests shape w is = let same : work.Clean (record { along = begun_clean shape.min_level; stage = clean.LoadLevel }) ≡ w = cc in subst IsResting same tt
+-- a work that was begun rests
+pub begun_rests : (shape : Shape) (l : Left) → IfSome (begun_work shape l) IsResting
+begun_rests shape left.Nothing = tt
+begun_rests shape left.Clean = tt
+begun_rests shape (left.Resize d level) = tt
+begun_rests shape (left.Grace g) = tt
 
 pub poll_begins_resting : (w : Work) → IsResting w → Rests (resumes w).0 (resumes w).1
 poll_begins_resting (work.Clean c) rests = so c.stage (resumed c.along c.stage) rests
-poll_begins_resting (work.Resize r) rests = tt
+poll_begins_resting (work.Resize r) rests = away_so r.stage (resizes.resumed r.along r.stage) rests
 
 -- A CALL BEGINS WITH NOTHING KNOWN OF A HEAD
 
@@ -149,7 +156,7 @@ module _ (t : Table) (m : Memory) (i load : ℕ) (log : List Event) where
   work_headed : (caller : Caller) (w : Option Work) → IfSome w IsResting → Headed t m i load log (begun_work_poll caller w)
   work_headed caller None rests = tt
   work_headed caller (Some (work.Clean c)) rests = clean_begins (record c.along { full_passes = 0 }) c.stage (resumed c.along c.stage) rests
-  work_headed caller (Some (work.Resize r)) rests = tt
+  work_headed caller (Some (work.Resize r)) rests = away_headed t m i load log r.direction r.along r.stage (resizes.resumed r.along r.stage) rests
 
   grace_headed : (caller : Caller) (g : Option Grace) → Headed t m i load log (begun_grace_poll caller g)
   grace_headed caller None = tt

@@ -5,12 +5,12 @@ use Rattle.std.specs.Option.{option_map}
 use Rattle.std.proofs.lemmas.Bool.Decides.{nat_tests}
 use Rattle.marked_word.specs.Number.{section_word, owner_word}
 use Rattle.section_core.specs.Words.{waits_for}
+use Rattle.table_shape.specs.declared.shape.Shape.{Shape}
 use Rattle.intern_log.specs.declared.event.Event.{Event}
 use Rattle.intern_log.specs.Now.{OpenSection, owner_of}
-use Rattle.atomic_step.specs.declared.answer.Answer.{Answer}
 use Rattle.atomic_step.specs.declared.answer.Answer.TheVariants as answer
 use Rattle.atomic_step.specs.Turn.{plan_in, next_in}
-use Rattle.atomic_step.proofs.Choices.{where_it_is, either_way, not_equal}
+use Rattle.atomic_step.proofs.Choices.{where_it_is, either_way, found_equal, not_equal}
 use Rattle.call_machine.specs.declared.begin.BeginStage.{BeginStage}
 use Rattle.call_machine.specs.declared.begin.BeginStage.TheVariants as begin
 use Rattle.call_machine.specs.declared.begin.Left.TheVariants as left
@@ -26,7 +26,7 @@ use Rattle.call_machine.specs.Begin.{begin_turn, goes_on, taken, answers, graced
 use Rattle.cht_core.specs.declared.table.Table.{Table}
 use Rattle.cht_core.specs.Flow.{Flow}
 use Rattle.cht_core.specs.Past.{past_of}
-use Rattle.cht_core.specs.Causes.{now_in, PlanSays, IsSpent, IsBusy, IsOpenBelow, IsOfLevel, BeginEnds, BeginCaused, BeginHears}
+use Rattle.cht_core.specs.Causes.{now_in, PlanSays, IsSpent, IsBusy, IsOpenBelow, IsAtLevel, BeginCaused, BeginHears}
 use Rattle.cht_core.specs.Windows.{Somewhere}
 use Rattle.cht_core.proofs.Windows.{at_end}
 
@@ -73,30 +73,27 @@ module _ (t : Table) (i : ℕ) (seen window : List Event) where
   took task.Grow = tt
   took task.Shrink = tt
 
-  of_level : (a : Answer) → IsOfLevel a → BeginEnds t i seen window a left.Nothing
-  of_level (answer.AtMaximum level) h = tt
-  of_level (answer.AtMinimum level) h = tt
-  of_level _ h = absurd h
-
   -- by a word that is found
-  pub begin_found : (f : Flow) (caller : Caller) (s : BeginStage) (word : ℕ) → BeginCaused t i seen window s →
+  pub begin_found : (f : Flow) (caller : Caller) (s : BeginStage) (word : ℕ) → caller.shape ≡ t.shape → BeginCaused t i seen window s →
       PlanSays t (past_of t.shape.min_level (seen ++ window)) f (plan_in (begin_turn caller s)) word → BeginHears (past_of t.shape.min_level (seen ++ window)) i s →
       BeginCaused t i seen window (next_in s (begin_turn caller s) word)
-  begin_found f caller (begin.LoadCounter work) word h says hears =
+  begin_found f caller (begin.LoadCounter work) word shape h says hears =
       where_it_is (λ s. BeginCaused t i seen window s) (nat_le (2 ^ 48) word) (answers (answer.Spent word)) (goes_on work) (λ great. spent_now word says great) (λ small. begun work)
-  begin_found f caller (begin.TakeResizeLock work) word h says hears =
+  begin_found f caller (begin.TakeResizeLock work) word shape h says hears =
       where_it_is (λ s. BeginCaused t i seen window s) (word == 0) (taken work) (answers answer.Busy) (λ free. took work)
       (λ owner. at_end seen window (IsBusy t i) (busy word says hears (not_equal word 0 owner)))
-  begin_found f caller (begin.LoadLevel Grow) word h says hears =
-      either_way (λ s. BeginCaused t i seen window s) (word == caller.shape.max_level) (begin.GiveResizeLock (answer.AtMaximum word)) (begin.Answered answer.Begun (left.Resize Grow word)) tt tt
-  begin_found f caller (begin.LoadLevel Shrink) word h says hears =
-      either_way (λ s. BeginCaused t i seen window s) (word == caller.shape.min_level) (begin.GiveResizeLock (answer.AtMinimum word)) (begin.Answered answer.Begun (left.Resize Shrink word)) tt tt
-  begin_found f caller (begin.GiveResizeLock a) word h says hears = of_level a h
-  begin_found f caller (begin.Grace g grace.RaiseCounter) word h says hears = tt
-  begin_found f caller (begin.Grace g grace.LoadSection) word h says hears =
+  begin_found f caller (begin.LoadLevel Grow) word shape h says hears =
+      where_it_is (λ s. BeginCaused t i seen window s) (word == caller.shape.max_level) (begin.GiveResizeLock (answer.AtMaximum word)) (begin.Answered answer.Begun (left.Resize Grow word))
+      (λ most. (at_end seen window (IsAtLevel t word) says, found_equal word caller.shape.max_level most ∙ ap (λ (s : Shape). s.max_level) shape)) (λ below. tt)
+  begin_found f caller (begin.LoadLevel Shrink) word shape h says hears =
+      where_it_is (λ s. BeginCaused t i seen window s) (word == caller.shape.min_level) (begin.GiveResizeLock (answer.AtMinimum word)) (begin.Answered answer.Begun (left.Resize Shrink word))
+      (λ least. (at_end seen window (IsAtLevel t word) says, found_equal word caller.shape.min_level least ∙ ap (λ (s : Shape). s.min_level) shape)) (λ above. tt)
+  begin_found f caller (begin.GiveResizeLock a) word shape h says hears = h
+  begin_found f caller (begin.Grace g grace.RaiseCounter) word shape h says hears = tt
+  begin_found f caller (begin.Grace g grace.LoadSection) word shape h says hears =
       where_it_is (λ (at : Grace × Gracing). BeginCaused t i seen window (graced grace.LoadSection at.0 at.1)) (waits_for g.raised word)
       (g, gracing.Waits) (if g.next + 1 == caller.shape.seats then (g, gracing.Over) else (record g { next = g.next + 1 }, gracing.Goes))
       (λ waits. open_below g word says waits)
       (λ goes. either_way (λ (at : Grace × Gracing). BeginCaused t i seen window (graced grace.LoadSection at.0 at.1)) (g.next + 1 == caller.shape.seats)
       (g, gracing.Over) (record g { next = g.next + 1 }, gracing.Goes) tt tt)
-  begin_found f caller (begin.Answered a l) word h says hears = h
+  begin_found f caller (begin.Answered a l) word shape h says hears = h

@@ -31,8 +31,8 @@ use Rattle.call_machine.specs.Leave.{tries_again, leaves_with, loses_with}
 use Rattle.call_machine.specs.Node.{end_of, comes_to, compares_from, passes, met, matches}
 use Rattle.call_machine.specs.Sought.{meta_of, has_word}
 use Rattle.cht_core.specs.declared.table.Table.{Table}
-use Rattle.cht_core.specs.Causes.{now_in, PlanSays, IsUnseen, loaded_at}
-use Rattle.cht_core.specs.CauseCalls.{Way, Walks, HasCount, IsWordOf, IsAbsent, IsTextLocked, home_of, IsAtHome, CountLost, LostBy, WalkEnds, CallEnds, HeadFound}
+use Rattle.cht_core.specs.Causes.{now_in, PlanSays, IsUnseen, loaded_at, IsRowIn}
+use Rattle.cht_core.specs.CauseCalls.{Way, Walks, HasCount, IsWordOf, IsAbsent, IsTextLocked, IsAtHome, CountLost, LostBy, WalkEnds, CallEnds, HeadFound}
 use Rattle.cht_core.specs.CauseCalls.{IsIntern, IsTried, CallCaused, HearsHead, CallHears}
 use Rattle.cht_core.specs.Flow.{Flow}
 use Rattle.cht_core.specs.Past.{Past, past_of}
@@ -52,7 +52,7 @@ pub home_locked : (t : Table) (f : Flow) (log : List Event) (text : List ℕ) (w
     is_locked word ≡ true → IsTextLocked t text log
 home_locked t f log text walk word at says locked =
     let owner = some_of ((now_in t log).lock walk.row walk.bucket) (sym (says at.0) ∙ locked) in
-    (owner.0, ap (λ row. (now_in t log).lock row (home_of (now_in t log) text)) (sym at.0.0) ∙ ap ((now_in t log).lock walk.row) (sym at.1) ∙ owner.1)
+    (walk.row, at.1, (owner.0, ap ((now_in t log).lock walk.row) (sym at.2) ∙ owner.1))
 
 module _ (t : Table) (i : ℕ) (way : Way) (seen window : List Event) (q : Asked) (walks : way ≡ Walks) where
   -- an answer of a walk is one of the call
@@ -83,27 +83,27 @@ module _ (t : Table) (i : ℕ) (way : Way) (seen window : List Event) (q : Asked
     | inr round ↦ (let below : x < slots = round.0 in let up : slot + slots ≤ x + 0 = round.1 in absurd (omega (arith, below, up)))
   ]
 
-  inserting : (load : ℕ) (w : Along) (kept : Option Handle) (cursor : ℕ) → IsIntern q.goal → length seen ≤ load → Somewhere (IsAbsent q.text) seen window →
-      CallCaused t i way seen window load q w (stage.Insert (inserts kept cursor))
-  inserting load w None cursor intern began absent = (walks, intern, began, absent, λ x tried. absurd (none_tried t.shape.slots cursor x tried))
-  inserting load w (Some h) cursor intern began absent = (walks, intern, began)
+  inserting : (load : ℕ) (w : Along) (kept : Option Handle) (cursor : ℕ) → IsIntern q.goal → length seen ≤ load → Somewhere (IsRowIn t w.walk.row) seen window →
+      Somewhere (IsAbsent q.text) seen window → CallCaused t i way seen window load q w (stage.Insert (inserts kept cursor))
+  inserting load w None cursor intern began row absent = (walks, intern, began, absent, λ x tried. absurd (none_tried t.shape.slots cursor x tried), row)
+  inserting load w (Some h) cursor intern began row absent = (walks, intern, began, row)
 
   -- a look-up misses; an intern answers that the bucket is locked, tries again or makes an entry
-  ended : (load : ℕ) (w : Along) (kept : Option Handle) (cursor head : ℕ) → length seen ≤ load → Somewhere (IsAbsent q.text) seen window →
+  ended : (load : ℕ) (w : Along) (kept : Option Handle) (cursor head : ℕ) → length seen ≤ load → Somewhere (IsRowIn t w.walk.row) seen window → Somewhere (IsAbsent q.text) seen window →
       (is_locked head ≡ true → Somewhere (IsTextLocked t q.text) seen window) → CallCaused t i way seen window load q w (end_of kept cursor head q.goal)
-  ended load w kept cursor head began absent locked = go q.goal refl
+  ended load w kept cursor head began row absent locked = go q.goal refl
     where
       go : (goal : Goal) → q.goal ≡ goal → CallCaused t i way seen window load q w (end_of kept cursor head goal)
       go Lookup is = leaving load w kept answer.Miss absent
       go Intern is = where_it_is (λ s. CallCaused t i way seen window load q w s) (is_locked head) (leaves_with kept answer.Locked) (stage.Insert (inserts kept cursor))
-          (λ held. leaving load w kept answer.Locked (locked held)) (λ free. inserting load w kept cursor (subst IsIntern (sym is) tt) began absent)
+          (λ held. leaving load w kept answer.Locked (locked held)) (λ free. inserting load w kept cursor (subst IsIntern (sym is) tt) began row absent)
       go InternWait is = where_it_is (λ s. CallCaused t i way seen window load q w s) (is_locked head) tries_again (stage.Insert (inserts kept cursor))
-          (λ held. walks) (λ free. inserting load w kept cursor (subst IsIntern (sym is) tt) began absent)
+          (λ held. walks) (λ free. inserting load w kept cursor (subst IsIntern (sym is) tt) began row absent)
 
   -- the walk comes to a node, or to its end
   coming : (load : ℕ) (w : Along) (kept : Option Handle) (cursor : ℕ) (o : Option ℕ) → HeadFound t seen window load q.text w.walk → (o ≡ None → Somewhere (IsAbsent q.text) seen window) →
       CallCaused t i way seen window load q w (comes_to q (record w { kept = kept; cursor = cursor }) w.walk.head o)
-  coming load w kept cursor None head absent = ended load w kept cursor w.walk.head head.began (absent refl) head.locked
+  coming load w kept cursor None head absent = ended load w kept cursor w.walk.head head.began head.row (absent refl) head.locked
   coming load w kept cursor (Some x) head absent = (walks, head)
 
 module _ (t : Table) (i : ℕ) (way : Way) (seen window : List Event) (f : Flow) (q : Asked) (walks : way ≡ Walks) (told : IsTold t (seen ++ window)) where
@@ -119,7 +119,7 @@ module _ (t : Table) (i : ℕ) (way : Way) (seen window : List Event) (f : Flow)
   head_loaded w word says hears =
       let began : length seen ≤ Then.now.place = seen_before seen window Then.now.place now_place in
       coming t i way seen window q walks Then.now.place (record w { walk = record w.walk { head = word } }) w.kept w.cursor (first_of word)
-      (record { began = began; locked = λ held. at_end seen window (IsTextLocked t q.text) (home_locked t f (seen ++ window) q.text w.walk word hears.0 says held) })
+      (record { began = began; row = at_end seen window (IsRowIn t w.walk.row) hears.0.1; locked = λ held. at_end seen window (IsTextLocked t q.text) (home_locked t f (seen ++ window) q.text w.walk word hears.0 says held) })
       (λ end. missing t i seen window told q.text Then.now.place began (hears.1 end))
 
   -- finding the head, by a word that is found
@@ -130,7 +130,7 @@ module _ (t : Table) (i : ℕ) (way : Way) (seen window : List Event) (f : Flow)
   find_found load w find.LoadHead word says hears =
       where_it_is (λ (o : Option FindStage). let at = found q w (record w.walk { head = word }, o) in CallCaused t i way seen window Then.now.place q at.0 at.1) (is_redirected word)
       (Some find.LoadNewLevel) None
-      (λ redirected. walks) (λ plain. head_loaded w word says hears)
+      (λ redirected. walks) (λ plain. head_loaded w word says (hears plain))
   find_found load w find.LoadNewLevel word says hears = walks
   find_found load w find.LoadNewHead word says hears = head_loaded w word says hears
 
@@ -169,7 +169,7 @@ module _ (t : Table) (i : ℕ) (way : Way) (seen window : List Event) (f : Flow)
             let (count, has, is) = entry_seen t Then tidy i x word q.text hears says (omega (arith, some)) in
             (count, subst (λ (m : TextMap). HasCount m q.text (handle_at x word) count) (texts_are t i seen window told (seen ++ window)) has, is)
     node_found load w (node.Link x) word h says hears =
-        coming t i way seen window q walks load (record w { walk = passes w.walk }) w.kept w.cursor (node_of word) (record { began = h.1.began; locked = h.1.locked })
+        coming t i way seen window q walks load (record w { walk = passes w.walk }) w.kept w.cursor (node_of word) (record { began = h.1.began; row = h.1.row; locked = h.1.locked })
         (λ end. missing t i seen window told q.text load h.1.began (hears end))
     node_found load w (node.Take x count) word h says hears =
         where_it_is (λ s. CallCaused t i way seen window load q w s) (word == count) (leaves_with w.kept (met Counted q.goal (handle_at x count))) (loses_with q.goal w.kept answer.Again)

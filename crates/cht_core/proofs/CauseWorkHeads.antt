@@ -38,11 +38,13 @@ use Rattle.call_machine.specs.Poll.{poll_plan, polling, poll_turn}
 use Rattle.call_machine.proofs.Machines.{plan_part, got_part, plan_is, got_is}
 use Rattle.cht_core.specs.declared.table.Table.{Table}
 use Rattle.cht_core.specs.Causes.{loaded_at, IsOnBucket}
-use Rattle.cht_core.specs.HeadKept.{HeadKept, CleanHeaded, WorkHeaded, Headed}
+use Rattle.cht_core.specs.HeadKept.{HeadKept, IsBucketLocked, CleanHeaded, WorkHeaded, Headed}
 use Rattle.cht_core.specs.Memory.{Memory, IsMade, found}
+use Rattle.cht_core.proofs.CauseAways.{answered_headed}
 use Rattle.cht_core.proofs.CauseHeads.{kept_from_load}
 use Rattle.cht_core.proofs.CauseHears.{IsFound}
 use Rattle.cht_core.proofs.CauseOwnHeads.{IsMadeBy, call_headed}
+use Rattle.cht_core.proofs.CauseResizeHeads.{resize_headed}
 
 module _ (t : Table) (m m' : Memory) (i : ℕ) (log more : List Event) (load : ℕ) where
   abbrev Came : Went → Type 0
@@ -101,8 +103,8 @@ module _ (t : Table) (m m' : Memory) (i : ℕ) (log more : List Event) (now load
       Comes (loaded_at (plan.Step (clean_row shape w s).step) now load) ((clean_row shape w s).next word)
   clean_headed shape w (clean.Lock lock.LoadHead) word made is =
       either_way (λ (l : Locking). Comes now (locks_on w l)) (is_locked word) locking.Waits (locking.Goes (lock.LockHead word)) tt
-      (subst (λ head. HeadKept m' i w.cleaning.row w.cleaning.bucket now head (IsOnBucket t w.cleaning.row w.cleaning.bucket) (log ++ more)) (sym is)
-      (kept_from_load m m' i w.cleaning.row w.cleaning.bucket now log more (IsOnBucket t w.cleaning.row w.cleaning.bucket) made at))
+      (subst (λ head. HeadKept m' i w.cleaning.row w.cleaning.bucket now head (IsOnBucket t w.cleaning.row w.cleaning.bucket) (IsBucketLocked t w.cleaning.row w.cleaning.bucket) (log ++ more)) (sym is)
+      (kept_from_load m m' i w.cleaning.row w.cleaning.bucket now log more (IsOnBucket t w.cleaning.row w.cleaning.bucket) (IsBucketLocked t w.cleaning.row w.cleaning.bucket) made at))
   clean_headed shape w (clean.Lock (lock.LockHead head)) word made is =
       either_way (λ (l : Locking). Comes load (locks_on w l)) (word == head) (locking.Locked (first_of word)) locking.Waits
       (on_pass t m m' i log more load (record w { cleaning = begins_pass w.cleaning (first_of word) }) (passes_on (first_of word))) tt
@@ -137,8 +139,8 @@ module _ (t : Table) (m m' : Memory) (i : ℕ) (log more : List Event) (now load
       answered w (clean.Grace which s) a = tt
       answered w (clean.Free which s) a = tt
       answered w clean.GiveResizeLock a = tt
-  poll_headed caller (work.Resize r) None word made is h = tt
-  poll_headed caller (work.Resize r) (Some a) word made is h = tt
+  poll_headed caller (work.Resize r) None word made is h = resize_headed t m m' i log more now load at caller.shape r.direction r.along r.stage word made is
+  poll_headed caller (work.Resize r) (Some a) word made is h = answered_headed t m' i load (log ++ more) r.direction r.along r.stage a
 
   part_headed : (mach : Machine) (word : ℕ) → IsMadeBy m m' (plan_part mach) → IsFound m (plan_part mach) word → Headed t m i load log mach →
       Headed t m' i (loaded_at (plan_part mach) now load) (log ++ more) (got_part mach word)

@@ -27,6 +27,7 @@ use Rattle.cht_core.specs.Search.{IsFit}
 use Rattle.cht_core.specs.Slots.{Slots, IsPast, count_in}
 use Rattle.cht_core.specs.TableState.{IsTable, Words}
 use Rattle.cht_core.specs.Tidy.{IsTidy}
+use Rattle.cht_core.proofs.CalmParts.{clear_kept}
 use Rattle.cht_core.proofs.Counts.{generation_in_word, count_small, count_of_other}
 use Rattle.cht_core.proofs.Entries.{text_cases, Puts}
 use Rattle.cht_core.proofs.LiveCounts.{LiveAt}
@@ -118,7 +119,10 @@ module _ (t : Table) (m m' : Memory) (p : Past) (f : Flow) (i x : ℕ) (text : L
     paths = λ row bucket used.
         let way : (first : Option ℕ) × (m (place.Head row bucket) ≡ used_head first (p.now.lock row bucket)) × IsPath (links m) first (f.chain row bucket) = table.heads.paths row bucket used in
         (way.0, c.there (place.Head row bucket) (λ same. cc) ∙ way.1, same_path way.0 (f.chain row bucket) way.2);
+    behind = λ row bucket is. let word = table.heads.behind row bucket is in (word.0, c.there (place.Head row bucket) (λ same. cc) ∙ word.1);
     held = table.heads.held;
+    gone = table.heads.gone;
+    pinned = table.heads.pinned;
   }
 
   sections_after : Sections t m' (counted_past p texts).now
@@ -135,6 +139,9 @@ module _ (t : Table) (m m' : Memory) (p : Past) (f : Flow) (i x : ℕ) (text : L
     once = table.chains.once;
     ranked = table.chains.ranked;
     bases = λ row bucket. let before : f.base row bucket ≤ p.now.place = table.chains.bases row bucket in omega (arith, before);
+    sides = table.chains.sides;
+    loose = table.chains.loose;
+    within = table.chains.within;
   }
 
   entries_before : (q : List ℕ) (e : Entry) → entry_of texts q ≡ Some e → (was : Entry) × (entry_of p.now.texts q ≡ Some was) × (was.handle ≡ e.handle)
@@ -148,7 +155,7 @@ module _ (t : Table) (m m' : Memory) (p : Past) (f : Flow) (i x : ℕ) (text : L
   ]
 
   same_fit : (since hash s : ℕ) → IsFit p.now f since hash s → IsFit (counted_past p texts).now (record f { holds = holds }) since hash s
-  same_fit since hash s fit = record { held = fit.held; near = fit.near }
+  same_fit since hash s fit = record { held = fit.held; near = fit.near; side = fit.side }
 
   -- what every seat knows goes on
   pub count_grows : Grows m p f m' (counted_past p texts) (record f { holds = holds })
@@ -188,7 +195,7 @@ module _ (t : Table) (m m' : Memory) (p : Past) (f : Flow) (i x : ℕ) (text : L
     counts = λ s at is. unlinked_count s k at is;
     owner = λ is. is;
     owner_back = λ is. is;
-    still = λ is. record { level = refl; since = refl };
+    still = λ is. record { level = refl; since = refl; stage = refl; before = refl; parted = λ s. refl; free = λ row bucket unused none. none };
   }
 
   pub count_spares : (k : ℕ) → k ≢ i → Spares k m p f m' (counted_past p texts) (record f { holds = holds })
@@ -217,6 +224,11 @@ module _ (t : Table) (m m' : Memory) (p : Past) (f : Flow) (i x : ℕ) (text : L
       sections = sections_after;
       heads = heads_after;
       chains = chains_after;
+      clear = clear_kept f.stage p.now (counted_past p texts).now refl table.tidy.since (λ k o is. inl is) table.clear;
+      idle = table.idle;
+      whole = table.whole;
+      row = table.row;
+      named = table.named;
       ledger = ledger;
     };
     grows = count_grows;

@@ -16,7 +16,8 @@ use Rattle.intern_log.proofs.Handles.{same_entry}
 use Rattle.cht_core.specs.declared.table.Table.{Table}
 use Rattle.cht_core.specs.Backs.{MayCreate}
 use Rattle.cht_core.specs.Chains.{Chains, AreRanked, birth, born}
-use Rattle.cht_core.specs.Flow.{Flow, bucket_in, IsUsed, IsHome}
+use Rattle.cht_core.specs.Flow.{Flow, IsUsed, ComesTo, IsHome}
+use Rattle.cht_core.specs.Stage.{Whole, bucket_in}
 use Rattle.cht_core.specs.Heads.{Heads, Sections, used_head}
 use Rattle.cht_core.specs.Ledger.{Balanced, sum_below}
 use Rattle.cht_core.specs.Memory.{Memory, links}
@@ -29,6 +30,8 @@ use Rattle.cht_core.proofs.CreateParts.{chain_here, chain_elsewhere, all_earlier
 use Rattle.cht_core.proofs.Entries.{text_cases}
 use Rattle.cht_core.proofs.HeadWords.{node_of_link}
 use Rattle.cht_core.proofs.Ledgers.{hold_of_other_handle, held_changed, sum_same}
+use Rattle.cht_core.proofs.Routes.{behind_unused}
+use Rattle.cht_core.proofs.Stages.{comes_one}
 use Rattle.cht_core.proofs.CreateSlots.{created_past, created_flow, Pushed, slot_here, slot_there, linked_here, phase_stays}
 
 module _ (t : Table) (m m' : Memory) (p : Past) (f : Flow) (i : ℕ) (text : List ℕ) (h : Handle) (row bucket head : ℕ) (table : IsTable t m p f) (may : MayCreate t m p f i text h row bucket head)
@@ -76,14 +79,21 @@ module _ (t : Table) (m m' : Memory) (p : Past) (f : Flow) (i : ℕ) (text : Lis
       let is : (u : List ℕ) × (k : Handle) × (at : ℕ) × (p.now.slot s ≡ Linked u k at) = node_linked r b s used on in
       ap birth (keeps_linked s is.0 is.1 is.2 is.3) ∙ sym (ap birth is.3)
 
-  ranked_still : (r b : ℕ) → IsUsed p.now f r b → AreRanked (f.base r b) (born (created_past p i text h).now.slot) (f.chain r b)
-  ranked_still r b used = ranked_kept (f.base r b) (born p.now.slot) (born (created_past p i text h).now.slot) (f.chain r b) (λ s on. same_birth r b s used on) (table.chains.ranked r b used)
+  ranked_still : (r b : ℕ) → IsUsed p.now f r b → AreRanked (f.base r b) (born p.now.slot) (f.chain r b) → AreRanked (f.base r b) (born (created_past p i text h).now.slot) (f.chain r b)
+  ranked_still r b used ranked = ranked_kept (f.base r b) (born p.now.slot) (born (created_past p i text h).now.slot) (f.chain r b) (λ s on. same_birth r b s used on) ranked
+
+  -- the new slot was not moved past
+  whole_here : f.parted h.slot ≡ Whole
+  whole_here = elim (table.chains.loose h.slot) [
+    | inl whole ↦ whole
+    | inr linked ↦ absurd (claimed_not_linked (p.now.slot h.slot) i linked.0 linked.1 linked.2 may.claimed.0 linked.3)
+  ]
 
   -- the chains are as the log says
-  pub created_chains : IsUsed p.now f row bucket → Chains (created_past p i text h).now (created_flow f i h row bucket)
-  created_chains here = record {
+  pub created_chains : IsUsed p.now f row bucket → ComesTo p.now f (hash_of p.now.seed text) row → Chains (created_past p i text h).now (created_flow f i h row bucket)
+  created_chains here comes_to_it = record {
     on_linked = λ r b s used on. elim (on_created r b s on) [
-      | inl is ↦ (text, h, p.now.place, linked_now s is.0, subst (λ k. bucket_in k (hash_of p.now.seed text) ≡ b) (sym is.1) (sym may.at_bucket ∙ sym is.2))
+      | inl is ↦ (text, h, p.now.place, linked_now s is.0, inl (subst (λ k. bucket_in k (hash_of p.now.seed text) ≡ b) (sym is.1) (sym may.at_bucket ∙ sym is.2)))
       | inr before ↦ (
           let was : (u : List ℕ) × (k : Handle) × (at : ℕ) × (p.now.slot s ≡ Linked u k at) × IsHome p.now f r b (hash_of p.now.seed u) = table.chains.on_linked r b s used before in
           (was.0, was.1, was.2, keeps_linked s was.0 was.1 was.2 was.3, was.4))
@@ -91,7 +101,7 @@ module _ (t : Table) (m m' : Memory) (p : Past) (f : Flow) (i : ℕ) (text : Lis
     linked_on = λ s u k at r linked comes. elim (cases_eq s h.slot) [
       | inl is ↦ (
           let same : text ≡ u = (linked_here t m m' p f i text h row bucket head table may absent pushed s u k at is linked).0 in
-          let in_row : r ≡ row = comes ∙ sym may.searched.routed in
+          let in_row : r ≡ row = comes_one p.now f (hash_of p.now.seed text) r row (subst (λ (v : List ℕ). ComesTo p.now f (hash_of p.now.seed v) r) (sym same) comes) comes_to_it in
           let in_bucket : bucket_in r (hash_of p.now.seed u) ≡ bucket =
           ap (λ v. bucket_in r (hash_of p.now.seed v)) (sym same) ∙ ap (λ j. bucket_in j (hash_of p.now.seed text)) in_row ∙ sym may.at_bucket in
           subst (On s) (sym (front_here r (bucket_in r (hash_of p.now.seed u)) in_row in_bucket)) (inl (sym is)))
@@ -103,14 +113,25 @@ module _ (t : Table) (m m' : Memory) (p : Past) (f : Flow) (i : ℕ) (text : Lis
       | inl is ↦ subst Once (sym (front_here r b is.0 is.1)) (not_before, table.chains.once row bucket here)
       | inr differ ↦ subst Once (sym (chain_stays r b differ)) (table.chains.once r b used)
     ];
-    ranked = λ r b used. elim (bucket_cases row bucket r b) [
-      | inl is ↦ subst (AreRanked (f.base r b) (born (created_past p i text h).now.slot)) (sym (front_here r b is.0 is.1)) (
-        all_earlier (born (created_past p i text h).now.slot) (f.base r b) (born (created_past p i text h).now.slot h.slot) (f.chain row bucket) (λ s on. inl (older_than_new s on)),
-        subst (AreRanked (f.base r b) (born (created_past p i text h).now.slot)) (chain_at r b is.0 is.1) (ranked_still r b used),
-      )
-      | inr differ ↦ subst (AreRanked (f.base r b) (born (created_past p i text h).now.slot)) (sym (chain_stays r b differ)) (ranked_still r b used)
+    ranked = λ r b used. elim (table.chains.ranked r b used) [
+      | inl joined ↦ inl joined
+      | inr ranked ↦ inr (elim (bucket_cases row bucket r b) [
+        | inl is ↦ subst (AreRanked (f.base r b) (born (created_past p i text h).now.slot)) (sym (front_here r b is.0 is.1)) (
+          all_earlier (born (created_past p i text h).now.slot) (f.base r b) (born (created_past p i text h).now.slot h.slot) (f.chain row bucket) (λ s on. inl (older_than_new s on)),
+          subst (AreRanked (f.base r b) (born (created_past p i text h).now.slot)) (chain_at r b is.0 is.1) (ranked_still r b used ranked),
+        )
+        | inr differ ↦ subst (AreRanked (f.base r b) (born (created_past p i text h).now.slot)) (sym (chain_stays r b differ)) (ranked_still r b used ranked)
+      ])
     ];
     bases = λ r b. let early : f.base r b ≤ p.now.place = table.chains.bases r b in omega arith;
+    sides = λ r b s u k at used on linked. elim (cases_eq s h.slot) [
+      | inl is ↦ inl (ap f.parted is ∙ whole_here)
+      | inr differ ↦ (
+          let before : p.now.slot s ≡ Linked u k at = sym (slot_there t m m' p f i text h row bucket head table may absent pushed s differ) ∙ linked in
+          elim (on_created r b s on) [ inl is ↦ absurd (differ is.0) | inr was ↦ table.chains.sides r b s u k at used was before ])
+    ];
+    loose = λ s. elim (table.chains.loose s) [ inl whole ↦ inl whole | inr l ↦ inr (l.0, l.1, l.2, keeps_linked s l.0 l.1 l.2 l.3, l.4) ];
+    within = table.chains.within;
   }
     where
       not_before : On h.slot (f.chain row bucket) → ⊥
@@ -130,8 +151,9 @@ module _ (t : Table) (m m' : Memory) (p : Past) (f : Flow) (i : ℕ) (text : Lis
   same_links = λ j s. ap node_of (pushed.there (place.Link s) (λ e. cc)) j
 
   -- the heads lead to their chains
-  pub created_heads : p.now.lock row bucket ≡ None → IsPath (links m) (first_of head) (f.chain row bucket) → Heads m' (created_past p i text h).now (created_flow f i h row bucket)
-  created_heads is_open leads = record {
+  pub created_heads : IsUsed p.now f row bucket → p.now.lock row bucket ≡ None → IsPath (links m) (first_of head) (f.chain row bucket)
+      → Heads m' (created_past p i text h).now (created_flow f i h row bucket)
+  created_heads here is_open leads = record {
     level = pushed.there place.Level (λ e. cc) ∙ table.heads.level;
     new_level = pushed.there place.NewLevel (λ e. cc) ∙ table.heads.new_level;
     owner = pushed.there place.ResizeLock (λ e. cc) ∙ table.heads.owner;
@@ -153,8 +175,15 @@ module _ (t : Table) (m m' : Memory) (p : Past) (f : Flow) (i : ℕ) (text : Lis
             subst (IsPath (links m') was.0) (sym (chain_stays r b differ)) (subst (λ next. IsPath next was.0 (f.chain r b)) (sym same_links) was.2),
           ))
     ];
+    behind = λ r b left. let word = table.heads.behind r b left in
+        (word.0, pushed.there (place.Head r b) (λ e. let same = head_of_bucket row bucket r b e in behind_unused m p.now f r b table.heads left (used_at r b same.0 same.1)) ∙ word.1);
     held = λ r b k is. table.heads.held r b k is;
+    gone = table.heads.gone;
+    pinned = table.heads.pinned;
   }
+    where
+      used_at : (r b : ℕ) → r ≡ row → b ≡ bucket → IsUsed p.now f r b
+      used_at r b rows buckets = subst (λ (x : ℕ). IsUsed p.now f x b) (sym rows) (subst (IsUsed p.now f row) (sym buckets) here)
 
   -- the sections stay
   pub created_sections : Sections t m' (created_past p i text h).now

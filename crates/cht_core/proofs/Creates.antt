@@ -23,7 +23,8 @@ use Rattle.cht_core.specs.Past.{Past, told, MayTell, kind_of}
 use Rattle.cht_core.specs.Rely.{Grows, Leaves, Spares, Walks}
 use Rattle.cht_core.specs.Search.{IsFit, IsHeld}
 use Rattle.cht_core.specs.TableState.{IsTable, Words}
-use Rattle.cht_core.proofs.Absent.{claimed_not_linked, claimed_not_unlinked, comes_here, is_open, leads_here, absent, not_live, not_made}
+use Rattle.cht_core.proofs.Absent.{claimed_not_linked, claimed_not_unlinked, comes_here, is_open, leads_here, absent, not_live, not_made, comes_to_it}
+use Rattle.cht_core.proofs.CalmParts.{clear_kept}
 use Rattle.cht_core.proofs.Basics.{after_same}
 use Rattle.cht_core.proofs.Buckets.{head_of_bucket}
 use Rattle.cht_core.proofs.Calm.{calm_leads}
@@ -79,6 +80,7 @@ module _ (t : Table) (m m' : Memory) (p : Past) (f : Flow) (i : ℕ) (text : Lis
   still_fit since hash s fit = record {
     held = still_held since s fit.held;
     near = λ u k at linked. fit.near u k at (sym (slot_stays s (held_elsewhere since s fit.held)) ∙ linked);
+    side = λ u k at linked. fit.side u k at (sym (slot_stays s (held_elsewhere since s fit.held)) ∙ linked);
   }
 
   created_walks : Walks m p.now f m' (created_past p i text h).now (created_flow f i h row bucket)
@@ -135,7 +137,7 @@ module _ (t : Table) (m m' : Memory) (p : Past) (f : Flow) (i : ℕ) (text : Lis
     counts = λ s at is. pushed.there (place.Count s) (λ e. cc);
     owner = λ is. is;
     owner_back = λ is. is;
-    still = λ is. record { level = refl; since = refl };
+    still = λ is. record { level = refl; since = refl; stage = refl; before = refl; parted = λ s. refl; free = λ r b unused none. none };
   }
     where
       not_mine : (r b : ℕ) → p.now.lock r b ≡ Some k → r ≡ row → b ≡ bucket → ⊥
@@ -190,8 +192,15 @@ creates_by h row bucket head t m m' p f i text table inside sound may made true 
         words = words;
         slots = created_slots t m m' p f i text h row bucket head table may none pushed;
         sections = created_sections t m m' p f i text h row bucket head table may none pushed;
-        heads = created_heads t m m' p f i text h row bucket head table may none pushed unlocked (leads_here t m p f i text h row bucket head table may word);
-        chains = created_chains t m m' p f i text h row bucket head table may none pushed (comes_here t m p f i text h row bucket head table may word);
+        heads = created_heads t m m' p f i text h row bucket head table may none pushed (comes_here t m p f i text h row bucket head table may word) unlocked
+            (leads_here t m p f i text h row bucket head table may word);
+        chains = created_chains t m m' p f i text h row bucket head table may none pushed (comes_here t m p f i text h row bucket head table may word)
+            (comes_to_it t m p f i text h row bucket head table may word);
+        clear = clear_kept f.stage p.now (created_past p i text h).now refl table.tidy.since (λ k o is. inl is) table.clear;
+        idle = table.idle;
+        whole = table.whole;
+        row = table.row;
+        named = table.named;
         ledger = λ counted. created_ledger t m m' p f i text h row bucket head table may none pushed inside (table.ledger counted) dead;
       };
       grows = created_grows t m m' p f i text h row bucket head table may none pushed;

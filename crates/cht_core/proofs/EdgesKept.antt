@@ -1,7 +1,9 @@
 -- The links of unlinked slots lead to slots that were linked as those were unlinked, and each step keeps that.
-use Rattle.std.proofs.Common.{◌≡◌, ◌≢◌, ◌==◌, Bool, true, false, cond, ℕ, ◌<◌, ◌≤◌, inl, inr, List, ◌++◌, length, Option, Some, None, refl, sym, ap, subst, ◌∙◌, arith}
+use Rattle.std.proofs.Common.{◌≡◌, ◌≢◌, ◌==◌, Bool, true, false, cond, ℕ, ◌+◌, ◌<◌, ◌≤◌, inl, inr, List, [], ◌∷◌, ◌++◌, length, Option, Some, None, refl, sym, ap, subst, ◌∙◌, arith}
 use Rattle.std.proofs.lemmas.Bool.{cases_eq}
 use Rattle.std.proofs.lemmas.List.{take_at, take-append-le}
+use Rattle.chain_core.specs.Nodes.{On}
+use Rattle.chain_core.proofs.Members.{on_right}
 use Rattle.marked_word.specs.Link.{node_of}
 use Rattle.table_shape.specs.declared.place.Place.TheVariants as place
 use Rattle.intern_log.specs.declared.event.Event.{Event}
@@ -17,11 +19,13 @@ use Rattle.atomic_step.specs.declared.step.Step.{Step}
 use Rattle.atomic_step.specs.declared.step.Step.TheVariants as step
 use Rattle.atomic_step.specs.Count.{holds_of, handle_at}
 use Rattle.atomic_step.specs.Event.{event_of}
+use Rattle.call_machine.specs.Resize.{other, chain_at, edge_from}
 use Rattle.cht_core.specs.declared.table.Table.{Table}
 use Rattle.cht_core.specs.Backs.{Backs, MayUnlink}
 use Rattle.cht_core.specs.Edges.{UnlinkedLead, WasLinked}
 use Rattle.cht_core.specs.Flow.{Flow}
 use Rattle.cht_core.specs.Invariant.{events_of}
+use Rattle.cht_core.specs.KnowsResize.{MayMove, IsLast, Over, side_bucket}
 use Rattle.cht_core.specs.Memory.{Memory, IsMade, found, links}
 use Rattle.cht_core.specs.Parts.{UnlinkedLeadLater}
 use Rattle.cht_core.specs.Past.{Past, past_of, told}
@@ -31,6 +35,8 @@ use Rattle.cht_core.specs.Tidy.{IsTidy}
 use Rattle.cht_core.proofs.Absent.{claimed_not_unlinked}
 use Rattle.cht_core.proofs.Basics.{after_load}
 use Rattle.cht_core.proofs.EdgesLead.{on_chain_linked, link_leads, link_leads_on}
+use Rattle.cht_core.proofs.Joins.{join_linked}
+use Rattle.cht_core.proofs.MoveEdges.{side_at}
 use Rattle.cht_core.proofs.TidyKept.{past_of-told}
 use Rattle.cht_core.proofs.UnlinkPlaces.{cut_told, cut_after_linked, cut_apart}
 
@@ -93,6 +99,21 @@ unlink_step text (step.LockHead row bucket head) word x is = absurd (let same : 
 unlink_step text (step.TakeResizeLock number) word x is = absurd (let same : what.ResizeTaken ≡ what.Unlink x = tested (word == 0) what.ResizeTaken (what.Unlink x) is in cc)
 unlink_step text _ word x is = absurd (cc)
 
+-- the link of which an edge is made is that of the last node, which is on the list
+edge_last : (row bucket last : ℕ) (end : Option ℕ) (own : List ℕ) → edge.Link last ≡ edge_from row bucket end → IsLast end own → On last own
+edge_last row bucket last None own is at = absurd (cc)
+edge_last row bucket last (Some x) own is at =
+    let here : x ≡ last = cc in
+    subst (λ (s : ℕ). On s own) here (subst (On x) (sym at.1) (on_right at.0 (x ∷ []) x (inl refl)))
+
+-- the node whose link is moved past another one is linked
+move_linked : (m : Memory) (p : Past) (f : Flow) (i last : ℕ) (next : Option ℕ) → MayMove m p.now f i (edge.Link last) next → IsLinked p.now last
+move_linked m p f i last next may =
+    let lost = side_at m p.now f i p.now.level may.bucket may.chains (Some may.node) Over may.unzipping (other may.side) in
+    let on : On last lost.own = edge_last (p.now.level + 1) (side_bucket p.now.level may.bucket (other may.side)) last (chain_at may.chains (other may.side)).last lost.own may.edge lost.last in
+    let node = lost.mine last on in
+    (node.0, node.1, node.2, node.3)
+
 module _ (t : Table) (m m' : Memory) (p : Past) (f : Flow) (i : ℕ) (text : List ℕ) (table : IsTable t m p f) where
   -- the edge to a slot that is unlinked is the head of its bucket, or the link of a linked slot
   link_stays_by : (s k at slot : ℕ) (from : Edge) (next : Option ℕ) → MayUnlink m p f i slot from next → IsMade (step.Unlink slot from next) m m' → p.now.slot s ≡ Unlinked k at
@@ -104,6 +125,16 @@ module _ (t : Table) (m m' : Memory) (p : Past) (f : Flow) (i : ℕ) (text : Lis
       let clash : Linked linked.0 linked.1 linked.2 ≡ Unlinked k at = sym linked.3 ∙ ap p.now.slot (sym here) ∙ is in
       cc)
 
+  -- the edge that is moved past a node is a head, or the link of a linked slot
+  moved_stays : (s k at : ℕ) (from : Edge) (next : Option ℕ) → MayMove m p.now f i from next → IsMade (step.MoveEdge from next) m m' → p.now.slot s ≡ Unlinked k at
+      → m' (place.Link s) ≡ m (place.Link s)
+  moved_stays s k at (edge.Head r b) next may made is = made.there (place.Link s) (λ same. cc)
+  moved_stays s k at (edge.Link last) next may made is = made.there (place.Link s) (λ same.
+      let here : s ≡ last = cc in
+      let linked : IsLinked p.now last = move_linked m p f i last next may in
+      let clash : Linked linked.0 linked.1 linked.2 ≡ Unlinked k at = sym linked.3 ∙ ap p.now.slot (sym here) ∙ is in
+      cc)
+
   -- no step changes the link of an unlinked slot
   link_stays : (s : Step) (slot k at : ℕ) → Backs t m p f i text s → IsMade s m m' → p.now.slot slot ≡ Unlinked k at → m' (place.Link slot) ≡ m (place.Link slot)
   link_stays (step.LoadLink x) slot k at backs made is = ap (λ (n : Memory). n (place.Link slot)) (after_load (step.LoadLink x) m m' refl made)
@@ -111,8 +142,12 @@ module _ (t : Table) (m m' : Memory) (p : Past) (f : Flow) (i : ℕ) (text : Lis
       let here : slot ≡ x = cc in
       claimed_not_unlinked (p.now.slot x) i k at backs (ap p.now.slot (sym here) ∙ is))
   link_stays (step.Unlink x from next) slot k at backs made is = link_stays_by slot k at x from next backs made is
-  link_stays (step.MoveEdge from next) slot k at backs made is = absurd backs
-  link_stays (step.JoinChains x next) slot k at backs made is = absurd backs
+  link_stays (step.MoveEdge from next) slot k at backs made is = moved_stays slot k at from next backs made is
+  link_stays (step.JoinChains x next) slot k at backs made is = made.there (place.Link slot) (λ same.
+      let here : slot ≡ x = cc in
+      let linked : IsLinked p.now x = join_linked t m p f i x next table backs in
+      let clash : Linked linked.0 linked.1 linked.2 ≡ Unlinked k at = sym linked.3 ∙ ap p.now.slot (sym here) ∙ is in
+      cc)
   link_stays _ slot k at backs made is = made.there (place.Link slot) (λ same. cc)
 
   -- nor that of the slot which it unlinks

@@ -1,5 +1,6 @@
 -- The words that steps find are words that they may find.
-use Rattle.std.proofs.Common.{ℕ, ◌<◌, List, inl, inr, arith}
+use Rattle.std.proofs.Common.{◌≡◌, ℕ, ◌<◌, ◌≤◌, List, Option, Some, None, inl, inr, arith}
+use Rattle.marked_word.specs.Number.{new_level_word}
 use Rattle.table_shape.specs.declared.place.Place.{Place}
 use Rattle.table_shape.specs.declared.place.Place.TheVariants as place
 use Rattle.atomic_step.specs.declared.step.Step.{Step}
@@ -13,6 +14,7 @@ use Rattle.cht_core.specs.Backs.{Backs}
 use Rattle.cht_core.specs.Flow.{Flow}
 use Rattle.cht_core.specs.Memory.{Memory, found}
 use Rattle.cht_core.specs.Past.{Past}
+use Rattle.cht_core.specs.Stage.{named_level}
 use Rattle.cht_core.specs.TableState.{IsTable, Words}
 use Rattle.cht_core.proofs.CountSteps.{handle_fits}
 
@@ -35,9 +37,14 @@ can_stand t (place.Meta slot) word at readable = at
 can_stand t (place.Text slot n) word at readable = tt
 
 module _ (t : Table) (m : Memory) (words : Words t m) where
-  -- of the words of a table all but the new level can be found
+  -- of the words of a table all can be found, the new level once there is one
   stands : (p : Place) → IsReadable p (m p) → CanStandAt t.shape p (m p)
   stands p readable = can_stand t p (m p) (words.sound p) readable
+
+-- a word that names a new level is none of no level
+new_level_readable : (word : ℕ) (named : Option ℕ) (level : ℕ) → word ≡ new_level_word named → named ≡ Some level → 1 ≤ word
+new_level_readable word None level is names = absurd (cc)
+new_level_readable word (Some k) level is names = omega (arith, is)
 
 -- the word that a step finds may be found by it
 pub finds : (t : Table) (m : Memory) (p : Past) (f : Flow) (i : ℕ) (text : List ℕ) (s : Step) → IsTable t m p f → i < t.shape.seats → Backs t m p f i text s → CanBeFound t.shape s (found s m)
@@ -47,7 +54,8 @@ finds t m p f i text step.LoadCounter table inside backs = (stands t m table.wor
 finds t m p f i text (step.OpenSection number counter) table inside backs = (tt, tt)
 finds t m p f i text (step.CloseSection number) table inside backs = (tt, tt)
 finds t m p f i text step.LoadLevel table inside backs = (stands t m table.words place.Level tt, tt)
-finds t m p f i text step.LoadNewLevel table inside backs = absurd backs
+finds t m p f i text step.LoadNewLevel table inside backs =
+    (stands t m table.words place.NewLevel (new_level_readable (m place.NewLevel) (named_level f.stage p.now.level) backs.0 table.heads.new_level backs.1), tt)
 finds t m p f i text (step.LoadHead row bucket) table inside backs = (stands t m table.words (place.Head row bucket) tt, tt)
 finds t m p f i text (step.LoadLink slot) table inside backs = (stands t m table.words (place.Link slot) tt, tt)
 finds t m p f i text (step.LoadMeta slot) table inside backs = (stands t m table.words (place.Meta slot) tt, tt)
@@ -75,9 +83,10 @@ finds t m p f i text (step.Unlink slot (edge.Head row bucket) next) table inside
 finds t m p f i text (step.Unlink slot (edge.Link last) next) table inside backs = (tt, tt)
 finds t m p f i text (step.TakeResizeLock number) table inside backs = (tt, tt)
 finds t m p f i text step.GiveResizeLock table inside backs = (tt, tt)
-finds t m p f i text (step.PutHead row bucket first) table inside backs = absurd backs
-finds t m p f i text (step.PutNewLevel level) table inside backs = absurd backs
-finds t m p f i text (step.RedirectHead row bucket first) table inside backs = absurd backs
-finds t m p f i text (step.MoveEdge from next) table inside backs = absurd backs
-finds t m p f i text (step.StoreLevel level) table inside backs = absurd backs
-finds t m p f i text (step.JoinChains slot next) table inside backs = absurd backs
+finds t m p f i text (step.PutHead row bucket first) table inside backs = (tt, tt)
+finds t m p f i text (step.PutNewLevel level) table inside backs = (tt, tt)
+finds t m p f i text (step.RedirectHead row bucket first) table inside backs = (tt, tt)
+finds t m p f i text (step.MoveEdge (edge.Head row bucket) next) table inside backs = (tt, tt)
+finds t m p f i text (step.MoveEdge (edge.Link last) next) table inside backs = (tt, tt)
+finds t m p f i text (step.StoreLevel level) table inside backs = (tt, tt)
+finds t m p f i text (step.JoinChains slot next) table inside backs = (tt, tt)

@@ -6,12 +6,17 @@ use Rattle.intern_log.specs.declared.event.Kind.TheVariants.{Counted, Weak}
 use Rattle.text_words.specs.Hash.{hash_of}
 use Rattle.atomic_step.specs.declared.count.Change.{Change}
 use Rattle.atomic_step.specs.declared.count.Change.TheVariants.{Drop, Permanent, Kill}
+use Rattle.call_machine.specs.declared.begin.BeginStage.{BeginStage}
+use Rattle.call_machine.specs.declared.begin.BeginStage.TheVariants as begin
+use Rattle.call_machine.specs.declared.begin.Left.{Left}
+use Rattle.call_machine.specs.declared.begin.Left.TheVariants as left
 use Rattle.call_machine.specs.declared.clean.CleanAlong.{CleanAlong}
 use Rattle.call_machine.specs.declared.clean.CleanStage.{CleanStage}
 use Rattle.call_machine.specs.declared.clean.CleanStage.TheVariants as clean
 use Rattle.call_machine.specs.declared.find.FindStage.{FindStage}
 use Rattle.call_machine.specs.declared.find.FindStage.TheVariants as find
 use Rattle.call_machine.specs.declared.find.Walk.{Walk}
+use Rattle.call_machine.specs.declared.grace.GraceStage.TheVariants as grace
 use Rattle.call_machine.specs.declared.handle.HandleStage.{HandleStage}
 use Rattle.call_machine.specs.declared.handle.HandleStage.TheVariants as handle
 use Rattle.call_machine.specs.declared.insert.InsertStage.{InsertStage}
@@ -45,13 +50,16 @@ use Rattle.cht_core.specs.Chains.{Chains}
 use Rattle.cht_core.specs.Flow.{Flow}
 use Rattle.cht_core.specs.Heads.{Heads}
 use Rattle.cht_core.specs.KnowsCall.{KnowsFind, KnowsNode, KnowsInsert, MayChange, KnowsHandle, KnowsRead, KnowsStage, AtNode, AtEnd}
-use Rattle.cht_core.specs.KnowsWork.{Locked, LeadsTo, IsAtNode, KnowsPass, KnowsCleaning, KnowsWork, KnowsClosing, KnowsSweep}
+use Rattle.cht_core.specs.KnowsResize.{Resizing, NoHead}
+use Rattle.cht_core.specs.KnowsWork.{Locked, LeadsTo, IsAtNode, KnowsPass, KnowsCleaning, KnowsWork, KnowsClosing, KnowsSweep, KnowsLeft, KnowsBegin}
 use Rattle.cht_core.specs.Ledger.{Balanced}
 use Rattle.cht_core.specs.Memory.{Memory}
 use Rattle.cht_core.specs.Past.{Past}
 use Rattle.cht_core.specs.Search.{IsFit, Searched}
+use Rattle.cht_core.specs.Stage.{Stage, Quiet}
 use Rattle.cht_core.specs.TableState.{IsTable}
 use Rattle.cht_core.specs.View.{View, KnowsMachine, Knows}
+use Rattle.cht_core.proofs.ResizeHolds.{resize_with_holds}
 
 module _ (m : Memory) (p : Past) (f : Flow) (holds : ℕ → Handle → ℕ) where
   -- the flow with these holds
@@ -59,10 +67,28 @@ module _ (m : Memory) (p : Past) (f : Flow) (holds : ℕ → Handle → ℕ) whe
   with_holds = record f { holds = holds }
 
   heads_with_holds : Heads m p.now f → Heads m p.now with_holds
-  heads_with_holds heads = record { level = heads.level; new_level = heads.new_level; owner = heads.owner; paths = heads.paths; held = heads.held }
+  heads_with_holds heads = record {
+    level = heads.level;
+    new_level = heads.new_level;
+    owner = heads.owner;
+    paths = heads.paths;
+    behind = heads.behind;
+    held = heads.held;
+    gone = heads.gone;
+    pinned = heads.pinned;
+  }
 
   chains_with_holds : Chains p.now f → Chains p.now with_holds
-  chains_with_holds chains = record { on_linked = chains.on_linked; linked_on = chains.linked_on; once = chains.once; ranked = chains.ranked; bases = chains.bases }
+  chains_with_holds chains = record {
+    on_linked = chains.on_linked;
+    linked_on = chains.linked_on;
+    once = chains.once;
+    ranked = chains.ranked;
+    bases = chains.bases;
+    sides = chains.sides;
+    loose = chains.loose;
+    within = chains.within;
+  }
 
   -- the table with other holds is as it should be where they are in balance
   pub table_with_holds : (t : Table) → IsTable t m p f → (t.kind ≡ Counted → Balanced t.shape.seats p.now.texts holds) → IsTable t m p with_holds
@@ -74,11 +100,16 @@ module _ (m : Memory) (p : Past) (f : Flow) (holds : ℕ → Handle → ℕ) whe
     sections = table.sections;
     heads = heads_with_holds table.heads;
     chains = chains_with_holds table.chains;
+    clear = table.clear;
+    idle = table.idle;
+    whole = table.whole;
+    row = table.row;
+    named = table.named;
     ledger = balanced;
   }
 
   fit_with_holds : (since hash s : ℕ) → IsFit p.now f since hash s → IsFit p.now with_holds since hash s
-  fit_with_holds since hash s fit = record { held = fit.held; near = fit.near }
+  fit_with_holds since hash s fit = record { held = fit.held; near = fit.near; side = fit.side }
 
   searched_with_holds : (i : ℕ) (text : List ℕ) (hash row load : ℕ) (first : Option ℕ) (passed ahead : List ℕ) → Searched p.now f i text hash row load first passed ahead
       → Searched p.now with_holds i text hash row load first passed ahead
@@ -143,7 +174,7 @@ module _ (m : Memory) (p : Past) (f : Flow) (holds : ℕ → Handle → ℕ) whe
 
   module _ (i : ℕ) where
     locked_with_holds : (row bucket : ℕ) (first : Option ℕ) → Locked m p.now f i row bucket first → Locked m p.now with_holds i row bucket first
-    locked_with_holds row bucket first h = record { used = h.used; lock = h.lock; head = h.head }
+    locked_with_holds row bucket first h = record { used = h.used; unpinned = h.unpinned; lock = h.lock; head = h.head }
 
     leads_with_holds : (c : Cleaning) (last : Option ℕ) (s : ℕ) → LeadsTo m f c last s → LeadsTo m with_holds c last s
     leads_with_holds c None s h = h
@@ -167,10 +198,28 @@ module _ (m : Memory) (p : Past) (f : Flow) (holds : ℕ → Handle → ℕ) whe
     cleaning_with_holds w (clean.Free freeing s) h = h
     cleaning_with_holds w clean.GiveResizeLock h = h
 
+    resizing_with_holds : (level : ℕ) (stage : Stage) (except : ℕ → ℕ → Type 0) → Resizing p.now f i level stage except → Resizing p.now with_holds i level stage except
+    resizing_with_holds level stage except h = record { owner = h.owner; at_level = h.at_level; at_stage = h.at_stage; free = h.free }
+
+    left_with_holds : (l : Left) → KnowsLeft p.now f i l → KnowsLeft p.now with_holds i l
+    left_with_holds left.Nothing h = h
+    left_with_holds left.Clean h = resizing_with_holds p.now.level Quiet NoHead h
+    left_with_holds (left.Resize d level) h = resizing_with_holds level Quiet NoHead h
+    left_with_holds (left.Grace g) h = h
+
+    begin_with_holds : (s : BeginStage) → KnowsBegin p.now f i s → KnowsBegin p.now with_holds i s
+    begin_with_holds (begin.LoadCounter t) h = h
+    begin_with_holds (begin.TakeResizeLock t) h = h
+    begin_with_holds (begin.LoadLevel d) h = resizing_with_holds p.now.level Quiet NoHead h
+    begin_with_holds (begin.GiveResizeLock a) h = resizing_with_holds p.now.level Quiet NoHead h
+    begin_with_holds (begin.Grace g grace.RaiseCounter) h = h
+    begin_with_holds (begin.Grace g grace.LoadSection) h = h
+    begin_with_holds (begin.Answered a l) h = left_with_holds l h
+
     work_with_holds : (w : Option Work) → IfSome w (KnowsWork m p f i) → IfSome w (KnowsWork m p with_holds i)
     work_with_holds None h = tt
-    work_with_holds (Some (work.Clean c)) h = (h.0, cleaning_with_holds c.along c.stage h.1)
-    work_with_holds (Some (work.Resize r)) h = absurd h
+    work_with_holds (Some (work.Clean c)) h = (resizing_with_holds p.now.level Quiet NoHead h.0, cleaning_with_holds c.along c.stage h.1)
+    work_with_holds (Some (work.Resize r)) h = resize_with_holds m p.now f holds i r.direction r.along r.stage h
 
     closing_with_holds : (c : Cleaning) (why : Closing) → KnowsClosing m p.now f i c why → KnowsClosing m p.now with_holds i c why
     closing_with_holds c closing.Again h = h
@@ -222,7 +271,7 @@ module _ (m : Memory) (p : Past) (f : Flow) (holds : ℕ → Handle → ℕ) whe
 
       machine_with_holds : (load : ℕ) (passed : List ℕ) (k : Machine) → KnowsMachine m p f i load passed k → KnowsMachine m p with_holds i load passed k
       machine_with_holds load passed (machine.Call c w g) h = ((stage_with_holds load passed c.asked c.along c.stage h.0.0, h.0.1), work_with_holds w h.1, h.2)
-      machine_with_holds load passed (machine.Begin b) h = h
+      machine_with_holds load passed (machine.Begin b) h = (h.0, begin_with_holds b.stage h.1)
       machine_with_holds load passed (machine.Poll q) h = (h.0, work_with_holds (work_left q.work q.answer) h.1)
       machine_with_holds load passed (machine.Sweep s) h = sweep_with_holds s.asked s.along s.stage h
 

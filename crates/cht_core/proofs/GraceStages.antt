@@ -25,7 +25,8 @@ use Rattle.cht_core.specs.declared.table.Table.{Table}
 use Rattle.cht_core.specs.Backs.{Backs}
 use Rattle.cht_core.specs.Flow.{Flow}
 use Rattle.cht_core.specs.Heads.{Sections}
-use Rattle.cht_core.specs.KnowsWork.{Graced, AreWaiting, slots_in, KnowsWaiting, KnowsWaited, KnowsOver, KnowsGrace, KnowsGracing}
+use Rattle.cht_core.specs.KnowsResize.{Graced}
+use Rattle.cht_core.specs.KnowsWork.{AreWaiting, slots_in, KnowsWaiting, KnowsWaited, KnowsOver, KnowsGrace, KnowsGracing}
 use Rattle.cht_core.specs.Memory.{Memory, IsMade, found}
 use Rattle.cht_core.specs.Past.{Past, by, past_after, told}
 use Rattle.cht_core.specs.TableState.{IsTable, Words}

@@ -58,7 +58,7 @@ module _ (t : Table) (m m' : Memory) (p : Past) (f : Flow) (i load : ℕ) (passe
 
   count_knows : (change : Change) → KnowsHandle p f i q (Count change)
       → KnowsStage m' (told p i (event_of q.text (handle_row q w (Count change)).step (m (place.Count q.handle.slot))))
-      (flow_after f i q.text (handle_row q w (Count change)).step (m (place.Count q.handle.slot))) i load passed q w (count_found change q.handle (m (place.Count q.handle.slot)))
+      (flow_after p.now f i q.text (handle_row q w (Count change)).step (m (place.Count q.handle.slot))) i load passed q w (count_found change q.handle (m (place.Count q.handle.slot)))
   count_knows Drop known = drop_knows known.0 known.1 (holds_of (m (place.Count q.handle.slot)) == 65535)
   count_knows Permanent known = (known.0, known.1, handle_fits t m p f i Permanent q.handle table inside (may_in q.kind t.kind p f i Permanent q.handle ours.kind known.1) (λ is. cc))
   count_knows Kill known = kill_knows known.0 known.1 (is_live q.handle (m (place.Count q.handle.slot))) refl
@@ -66,6 +66,6 @@ module _ (t : Table) (m m' : Memory) (p : Past) (f : Flow) (i load : ℕ) (passe
   -- what is known after a step
   pub handle_next : (s : HandleStage) → KnowsHandle p f i q s
       → let does = handle_row q w s in let word = found does.step m in let next = does.next word in
-      KnowsStage m' (told p i (event_of q.text does.step word)) (flow_after f i q.text does.step word) i load passed q next.0 next.1
+      KnowsStage m' (told p i (event_of q.text does.step word)) (flow_after p.now f i q.text does.step word) i load passed q next.0 next.1
   handle_next (Count change) known = count_knows change known
   handle_next (Exchange change count) known = changed_outside p i change q.handle (m (place.Count q.handle.slot) == count) known.0

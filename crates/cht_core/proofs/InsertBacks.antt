@@ -14,7 +14,8 @@ use Rattle.call_machine.specs.Insert.{insert_row}
 use Rattle.call_machine.specs.SoundCall.{HasRoom}
 use Rattle.cht_core.specs.declared.table.Table.{Table}
 use Rattle.cht_core.specs.Backs.{Backs}
-use Rattle.cht_core.specs.Flow.{Flow, bucket_in}
+use Rattle.cht_core.specs.Flow.{Flow}
+use Rattle.cht_core.specs.Stage.{bucket_in}
 use Rattle.cht_core.specs.KnowsCall.{KnowsInsert, HasWords}
 use Rattle.cht_core.specs.Memory.{Memory}
 use Rattle.cht_core.specs.Past.{Past}

@@ -129,7 +129,7 @@ module _ (t : Table) (m m' : Memory) (p : Past) (f : Flow) (i load : ℕ) (passe
   pub insert_knows : (s : InsertStage) → IsTidy t p.now → KnowsInsert m p.now f i load passed q w s → HasSoundInsert q.shape q.text w.kept s → IsMade (insert_row q w s).step m m'
       → Goes t m p f i q.text (insert_row q w s).step m'
       → KnowsNext m' (told p i (event_of q.text (insert_row q w s).step (found (insert_row q w s).step m)))
-      (flow_after f i q.text (insert_row q w s).step (found (insert_row q w s).step m)) i load passed q ((insert_row q w s).next (found (insert_row q w s).step m))
+      (flow_after p.now f i q.text (insert_row q w s).step (found (insert_row q w s).step m)) i load passed q ((insert_row q w s).next (found (insert_row q w s).step m))
   insert_knows (insert.Claim slot tried) tidy known sound made goes = claim_knows slot tried known sound.0 tidy (m (place.Claim slot) == 0) goes.table.tidy goes.grows
   insert_knows (insert.OwnCount slot) tidy known sound made goes = (known.0, (known.1, ap generation_of made.here))
   insert_knows (insert.PutMeta h) tidy known sound made goes =
@@ -164,7 +164,7 @@ module _ (t : Table) (m m' : Memory) (p : Past) (f : Flow) (i load : ℕ) (passe
         words_same h.slot (words_of (length q.text)) (made.there (place.Meta h.slot) (λ e. cc)) (λ k. made.there (place.Text h.slot k) (λ e. cc)) known.2,
       )
       (made.there (place.Count h.slot) (λ e. cc) ∙ known.4)
-      (flow_after f i q.text (step.CreateEntry h w.walk.row w.walk.bucket w.walk.head) (m (place.Head w.walk.row w.walk.bucket))) (m (place.Head w.walk.row w.walk.bucket) == w.walk.head)
+      (flow_after p.now f i q.text (step.CreateEntry h w.walk.row w.walk.bucket w.walk.head) (m (place.Head w.walk.row w.walk.bucket))) (m (place.Head w.walk.row w.walk.bucket) == w.walk.head)
 
   -- the walk is the same after each step
   abbrev HasWalk : Along × CallStage → Type 0
@@ -196,7 +196,7 @@ module _ (t : Table) (m m' : Memory) (p : Past) (f : Flow) (i load : ℕ) (passe
   pub insert_call_knows : (s : InsertStage) → IsTidy t p.now → KnowsCall m p f i load passed q w (stage.Insert s) → HasSoundInsert q.shape q.text w.kept s → IsMade (insert_row q w s).step m m'
       → Goes t m p f i q.text (insert_row q w s).step m'
       → KnowsCall m' (told p i (event_of q.text (insert_row q w s).step (found (insert_row q w s).step m)))
-      (flow_after f i q.text (insert_row q w s).step (found (insert_row q w s).step m)) i (load_after (insert_row q w s).step p.now.place load) (passed_after (insert_row q w s).step passed) q
+      (flow_after p.now f i q.text (insert_row q w s).step (found (insert_row q w s).step m)) i (load_after (insert_row q w s).step p.now.place load) (passed_after (insert_row q w s).step passed) q
       ((insert_row q w s).next (found (insert_row q w s).step m)).0 ((insert_row q w s).next (found (insert_row q w s).step m)).1
   insert_call_knows (insert.Claim slot tried) tidy known sound made goes =
       (insert_knows (insert.Claim slot tried) tidy known.0 sound made goes, few (insert.Claim slot tried) (m (place.Claim slot)) known.1)

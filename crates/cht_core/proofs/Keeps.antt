@@ -15,12 +15,15 @@ use Rattle.cht_core.specs.Backs.{Goes}
 use Rattle.cht_core.specs.Bounds.{Bounds}
 use Rattle.cht_core.specs.Edges.{UnlinkedLead}
 use Rattle.cht_core.specs.Flow.{Flow, flow_after}
+use Rattle.cht_core.specs.Graces.{GrowsWithFew}
 use Rattle.cht_core.specs.Invariant.{Inv, Moves, events_of}
 use Rattle.cht_core.specs.Memory.{Memory, found}
 use Rattle.cht_core.specs.Owes.{Owes, IsAllOf}
 use Rattle.cht_core.specs.Past.{Past, past_of, told}
 use Rattle.cht_core.specs.TableState.{IsTable}
 use Rattle.cht_core.specs.View.{View, Knows, view_after}
+use Rattle.cht_core.proofs.EnteredCounts.{no_fewer}
+use Rattle.cht_core.proofs.FewSeats.{seat_owner, seat_stays}
 use Rattle.cht_core.proofs.LawfulKept.{lawful_told}
 use Rattle.cht_core.proofs.NumbersKept.{numbers_after_step, holds_after_step}
 use Rattle.cht_core.proofs.StableSeats.{knows_grows, all_of_grows}
@@ -44,7 +47,7 @@ module _ (t : Table) (m m' : Memory) (seat seat' : ℕ → Option View) (log : L
   after = told past i event
 
   abbrev pub flow : Flow
-  flow = flow_after inv.flow i (machines.text_of k) s word
+  flow = flow_after past.now inv.flow i (machines.text_of k) s word
 
   abbrev pub new_view : View
   new_view = view_after past.now v k s word
@@ -69,10 +72,22 @@ module _ (t : Table) (m m' : Memory) (seat seat' : ℕ → Option View) (log : L
         (all_of_grows m past inv.flow m' after flow goes.grows j (goes.spares j differ) (option_map (λ (u : View). u.seat) (seat j)) (inv.owes j))
   ]
 
+  -- and how many graces
+  graces_all : Moves seat seat' i new_view → Goes t m past inv.flow i (machines.text_of k) s m' → GrowsWithFew after.now (log ++ events_of i event) flow new_view.seat
+      → (j : ℕ) (w : View) → seat' j ≡ Some w → GrowsWithFew after.now (log ++ events_of i event) flow w.seat
+  graces_all moves goes own j w at = elim (cases_eq j i) [
+    | inl same ↦ subst (λ (u : View). GrowsWithFew after.now (log ++ events_of i event) flow u.seat) (same_view new_view w (sym moves.own ∙ ap seat' (sym same) ∙ at)) own
+    | inr differ ↦
+        let was : seat j ≡ Some w = sym (moves.other j differ) ∙ at in
+        seat_stays past.now after.now log (log ++ events_of i event) goes.grows.seed (λ test. no_fewer test log (events_of i event)) inv.flow flow w.seat
+        (λ u has x not whole. not (sym (((goes.spares j differ).leaves.still (seat_owner t m past inv.flow j w u (inv.knows j w was) has)).parted x) ∙ whole)) (inv.graces j w was)
+  ]
+
   -- the invariant after the step, from what the step comes to, and what its own seat knows and has then
   pub step_keeps : Moves seat seat' i new_view → Goes t m past inv.flow i (machines.text_of k) s m' → ((h : Handle) → event ≡ Some (what.Drop h) → 1 ≤ inv.flow.holds i h)
-      → Knows t m' after flow i new_view → Owes after i new_view.seat → Bounds t m' seat' → UnlinkedLead t m' (log ++ events_of i event) → Inv t m' seat' (log ++ events_of i event)
-  step_keeps moves goes drops knows owes bounds edges =
+      → Knows t m' after flow i new_view → Owes after i new_view.seat → Bounds t m' seat' → UnlinkedLead t m' (log ++ events_of i event)
+      → GrowsWithFew after.now (log ++ events_of i event) flow new_view.seat → Inv t m' seat' (log ++ events_of i event)
+  step_keeps moves goes drops knows owes bounds edges graces =
       let told_is : past_of t.shape.min_level (log ++ events_of i event) ≡ after = past_of-told t.shape.min_level log i event in
       record {
         flow = flow;
@@ -84,4 +99,5 @@ module _ (t : Table) (m m' : Memory) (seat seat' : ℕ → Option View) (log : L
         holds = holds_after_step t seat seat' log i v new_view event is refl moves inv.flow.holds inv.numbers inv.holds drops;
         lawful = lawful_told t log i event inv.lawful goes.told;
         edges = edges;
+        graces = λ j w at. subst (λ (p : Past). GrowsWithFew p.now (log ++ events_of i event) flow w.seat) (sym told_is) (graces_all moves goes graces j w at);
       }

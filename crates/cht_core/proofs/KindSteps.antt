@@ -1,18 +1,25 @@
 -- The steps of each kind, and that each of them keeps a table that backs it.
 use Rattle.std.proofs.Common.{◌≡◌}
 use Rattle.atomic_step.specs.declared.access.StepKind.{StepKind}
-use Rattle.atomic_step.specs.declared.access.StepKind.TheVariants.{K1, K2, K3, K4, K5, K6, K7, K8, K9, K10, K11, K12, K13, K14, K15, K16, K17, K18, K19, K20}
+use Rattle.atomic_step.specs.declared.access.StepKind.TheVariants.{K1, K2, K3, K4, K5, K6, K7, K8, K9, K10, K11, K12, K13, K14, K15, K16, K17, K18, K19, K20, K21, K22, K23, K24, K25, K26}
 use Rattle.atomic_step.specs.declared.step.Step.{Step}
 use Rattle.atomic_step.specs.declared.step.Step.TheVariants as step
 use Rattle.atomic_step.specs.Step.{access_of}
 use Rattle.cht_core.specs.Backs.{KeepsTable}
 use Rattle.cht_core.proofs.CountSteps.{see_entry_keeps, see_handle_keeps, take_entry_keeps, change_entry_keeps}
 use Rattle.cht_core.proofs.Creates.{create_entry_keeps}
+use Rattle.cht_core.proofs.EndsUnzip.{unlock_head_keeps}
 use Rattle.cht_core.proofs.Loads.{load_draws_keeps, load_counter_keeps, load_level_keeps, load_new_level_keeps, load_head_keeps, load_link_keeps, load_meta_keeps, load_text_keeps, load_count_keeps, load_section_keeps}
-use Rattle.cht_core.proofs.Locking.{lock_head_keeps, unlock_head_keeps}
+use Rattle.cht_core.proofs.Joins.{join_chains_keeps}
+use Rattle.cht_core.proofs.Locking.{lock_head_keeps}
 use Rattle.cht_core.proofs.LockSteps.{take_resize_lock_keeps, give_resize_lock_keeps}
+use Rattle.cht_core.proofs.MoveSteps.{move_edge_keeps}
+use Rattle.cht_core.proofs.NewLevels.{put_new_level_keeps}
+use Rattle.cht_core.proofs.PutHeads.{put_head_keeps}
+use Rattle.cht_core.proofs.Redirects.{redirect_head_keeps}
 use Rattle.cht_core.proofs.SectionSteps.{draw_keeps, raise_counter_keeps, open_section_keeps, close_section_keeps}
 use Rattle.cht_core.proofs.SlotSteps.{put_meta_keeps, put_text_keeps, put_link_keeps, put_count_keeps, put_next_generation_keeps, claim_slot_keeps, free_slot_keeps}
+use Rattle.cht_core.proofs.StoreLevels.{store_level_keeps}
 use Rattle.cht_core.proofs.Unlinking.{unlink_keeps}
 
 -- each step of the kind keeps a table that backs it
@@ -109,3 +116,27 @@ loads_of_the_level_keep _ is = absurd (cc)
 pub loads_of_the_new_level_keep : StepsKeep K20
 loads_of_the_new_level_keep step.LoadNewLevel is = load_new_level_keeps
 loads_of_the_new_level_keep _ is = absurd (cc)
+
+pub heads_made_keep : StepsKeep K21
+heads_made_keep (step.PutHead row bucket first) is = put_head_keeps row bucket first
+heads_made_keep _ is = absurd (cc)
+
+pub new_levels_keep : StepsKeep K22
+new_levels_keep (step.PutNewLevel level) is = put_new_level_keeps level
+new_levels_keep _ is = absurd (cc)
+
+pub redirects_keep : StepsKeep K23
+redirects_keep (step.RedirectHead row bucket first) is = redirect_head_keeps row bucket first
+redirects_keep _ is = absurd (cc)
+
+pub moves_keep : StepsKeep K24
+moves_keep (step.MoveEdge from next) is = move_edge_keeps from next
+moves_keep _ is = absurd (cc)
+
+pub levels_keep : StepsKeep K25
+levels_keep (step.StoreLevel level) is = store_level_keeps level
+levels_keep _ is = absurd (cc)
+
+pub joins_keep : StepsKeep K26
+joins_keep (step.JoinChains slot next) is = join_chains_keeps slot next
+joins_keep _ is = absurd (cc)

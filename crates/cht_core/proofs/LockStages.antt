@@ -22,6 +22,7 @@ use Rattle.call_machine.specs.declared.pass.Waiting.{Waiting}
 use Rattle.call_machine.specs.Lock.{lock_row}
 use Rattle.call_machine.specs.Pass.{pass_row}
 use Rattle.cht_core.specs.declared.table.Table.{Table}
+use Rattle.cht_core.specs.Backs.{Backs}
 use Rattle.cht_core.specs.Flow.{Flow, IsUsed, flow_after, holds_after}
 use Rattle.cht_core.specs.KnowsWork.{KnowsWaiting, Locked}
 use Rattle.cht_core.specs.Memory.{Memory, IsMade, found}
@@ -38,33 +39,35 @@ abbrev pub KnowsLocking : Memory → Now → Flow → ℕ → ℕ → ℕ → Lo
 KnowsLocking m n f i row bucket (locking.Locked first) = Locked m n f i row bucket first
 KnowsLocking m n f i row bucket _ = Unit {0}
 
-exchanged : (t : Table) (m m' : Memory) (p : Past) (f : Flow) (i row bucket head : ℕ) → IsTable t m p f → is_locked head ≡ false → IsUsed p.now f row bucket →
+exchanged : (t : Table) (m m' : Memory) (p : Past) (f : Flow) (i row bucket head : ℕ) → IsTable t m p f → is_locked head ≡ false → (m (place.Head row bucket) ≡ head → IsUsed p.now f row bucket) →
     IsMade (step.LockHead row bucket head) m m' → (b : Bool) → (m (place.Head row bucket) == head) ≡ b →
     KnowsLocking m' (told p i (cond b (Some (what.Lock row bucket)) None)).now (record f { holds = holds_after i (cond b (Some (what.Lock row bucket)) None) f.holds }) i row bucket
     (cond b (locking.Locked (first_of (m (place.Head row bucket)))) locking.Waits)
-exchanged t m m' p f i row bucket head table open_head used made false other = tt
-exchanged t m m' p f i row bucket head table open_head used made true met =
+exchanged t m m' p f i row bucket head table open_head may made false other = tt
+exchanged t m m' p f i row bucket head table open_head may made true met =
     let word : m (place.Head row bucket) ≡ head = eqb-true (m (place.Head row bucket)) head met in
+    let used : IsUsed p.now f row bucket = may word in
     let was = unlocked_path t m p f row bucket head table used word open_head in
     let first : first_of (m (place.Head row bucket)) ≡ was.first = ap first_of (word ∙ was.word) ∙ first_of_head was.first None in
     record {
       used = used;
+      unpinned = λ pinned. let owned = table.heads.pinned row bucket pinned in let clash : None ≡ Some owned.0 = sym was.lock ∙ owned.2 in cc;
       lock = lock_here p.now.lock row bucket (Some i) row bucket refl refl;
       head = made.here ∙ ap (λ b. cond b (locked head) (m (place.Head row bucket))) met ∙ ap locked was.word ∙ lock_set was.first i ∙ ap locked_head (sym first);
     }
 
 -- a head that was locked by the exchange leads to the first node that was found
 pub lock_next : (t : Table) (m m' : Memory) (p : Past) (f : Flow) (i : ℕ) (text : List ℕ) (row bucket : ℕ) (stage : LockStage) → IsTable t m p f →
-    IsSoundStep t.shape i (lock_row row bucket stage).step → IsUsed p.now f row bucket → IsMade (lock_row row bucket stage).step m m' →
+    IsSoundStep t.shape i (lock_row row bucket stage).step → Backs t m p f i text (lock_row row bucket stage).step → IsMade (lock_row row bucket stage).step m m' →
     KnowsLocking m' (told p i (event_of text (lock_row row bucket stage).step (found (lock_row row bucket stage).step m))).now
-    (flow_after f i text (lock_row row bucket stage).step (found (lock_row row bucket stage).step m)) i row bucket ((lock_row row bucket stage).next (found (lock_row row bucket stage).step m))
+    (flow_after p.now f i text (lock_row row bucket stage).step (found (lock_row row bucket stage).step m)) i row bucket ((lock_row row bucket stage).next (found (lock_row row bucket stage).step m))
 lock_next t m m' p f i text row bucket lock.LoadHead table sound used made = loaded (is_locked (m (place.Head row bucket)))
   where
     loaded : (b : Bool) → KnowsLocking m' p.now f i row bucket (cond b locking.Waits (locking.Goes (lock.LockHead (m (place.Head row bucket)))))
     loaded true = tt
     loaded false = tt
 lock_next t m m' p f i text row bucket (lock.LockHead head) table sound used made =
-    exchanged t m m' p f i row bucket head table sound.1 used made (m (place.Head row bucket) == head) refl
+    exchanged t m m' p f i row bucket head table used.0 used.1 made (m (place.Head row bucket) == head) refl
 
 -- the sections, the owner of the resize lock and the level are what they were
 pub record IsSameBeside (p p' : Past) : Type 0 where

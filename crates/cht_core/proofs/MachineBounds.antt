@@ -33,7 +33,9 @@ use Rattle.call_machine.specs.Machine.{plan_of, got_of, shape_of}
 use Rattle.call_machine.specs.Poll.{poll_turn, state_of, polling, work_left}
 use Rattle.call_machine.specs.Sweep.{sweep_turn}
 use Rattle.call_machine.specs.Sweep as sweeps
-use Rattle.call_machine.specs.Work.{of_clean, resumes}
+use Rattle.call_machine.specs.Resize as resizes
+use Rattle.call_machine.specs.Resize.{resize_row}
+use Rattle.call_machine.specs.Work.{of_resize, of_clean, resumes}
 use Rattle.cht_core.specs.declared.seat.Seat.{Seat}
 use Rattle.cht_core.specs.declared.seat.Seat.TheVariants as doing
 use Rattle.cht_core.specs.Bounds.{draws_in}
@@ -50,6 +52,7 @@ use Rattle.cht_core.proofs.PollBounds.{clean_draws_not, clean_raises}
 use Rattle.cht_core.proofs.RaiseWeights.{HasWeight, calls_raise_not, begin_weight, sweep_weight, poll_weight}
 use Rattle.cht_core.proofs.SweepBounds.{sweep_raises}
 use Rattle.cht_core.proofs.Turns.{IfMakes, if_turned}
+use Rattle.cht_core.proofs.ResizeBounds.{resize_raises, resize_draws_not}
 use Rattle.cht_core.proofs.WorkBounds.{DrawsBy, RaisesBy}
 
 -- a poll that has not answered is not before a grace that is held back
@@ -82,7 +85,7 @@ poll_raises : (m m' : Memory) (p : Past) (f : Flow) (i : ℕ) (caller : Caller) 
     (doing.Running (machine.Poll (polling caller (does.next (found does.step m)))))) (poll_turn caller (w, a))
 poll_raises m m' p f i caller w (Some a) known low = tt
 poll_raises m m' p f i caller (work.Clean c) None known low = λ made may. (clean_raises m m' caller caller.shape c.along c.stage made may (low refl)).0
-poll_raises m m' p f i caller (work.Resize r) None known low = absurd known
+poll_raises m m' p f i caller (work.Resize r) None known low = λ made may. (resize_raises m m' caller caller.shape r r.stage made may (low refl)).0
 
 -- each step of a machine raises no more than it may
 pub machine_raises : (m m' : Memory) (p : Past) (f : Flow) (i load : ℕ) (passed : List ℕ) (k : Machine) (s : Step) → KnowsMachine m p f i load passed k → IsUnheld (doing.Running k)
@@ -91,7 +94,7 @@ machine_raises m m' p f i load passed (machine.Call c w g) s known unheld planne
     call_raises m m' c w g (turn_at c.asked c.along c.stage) (found s m) (counter_stays m m' s made (calls_raise_not c w g s planned))
 machine_raises m m' p f i load passed (machine.Begin b) s known unheld planned made may =
     if_turned (λ (s : Step) nx. IsMade s m m' → CanRaise m s → RaisesBy (m place.Counter) (m' place.Counter) (doing.Running (machine.Begin b)) (doing.Running (nx (found s m))))
-    (λ x. machine.Begin (record b { stage = x })) (machine.Begin b) (begin_turn b.caller b.stage) s (begin_raises m m' p.now i b b.stage known.1) planned made may
+    (λ x. machine.Begin (record b { stage = x })) (machine.Begin b) (begin_turn b.caller b.stage) s (begin_raises m m' p.now f i b b.stage known.1) planned made may
 machine_raises m m' p f i load passed (machine.Poll q) s known unheld planned made may =
     if_turned (λ (s : Step) nx. IsMade s m m' → CanRaise m s → RaisesBy (m place.Counter) (m' place.Counter) (doing.Running (machine.Poll q)) (doing.Running (nx (found s m))))
     (λ at. machine.Poll (polling q.caller at)) (machine.Poll q) (poll_turn q.caller (state_of q)) s (poll_raises m m' p f i q.caller q.work q.answer known.1 (unheld q refl)) planned made may
@@ -113,7 +116,7 @@ pub poll_draws_not : (m : Memory) (p : Past) (f : Flow) (i : ℕ) (caller : Call
     → IfMakes (λ does. does.step ≢ step.Draw) (poll_turn caller (w, a))
 poll_draws_not m p f i caller w (Some a) known = tt
 poll_draws_not m p f i caller (work.Clean c) None known = clean_draws_not caller.shape c.along c.stage
-poll_draws_not m p f i caller (work.Resize r) None known = absurd known
+poll_draws_not m p f i caller (work.Resize r) None known = resize_draws_not caller.shape r.direction r.along r.stage
 
 pub sweep_draws_not : (q : SweepAsked) (w : SweepAlong) (s : SweepStage) → IfMakes (λ does. does.step ≢ step.Draw) (sweep_turn q w s)
 sweep_draws_not q w sweep.Check = λ e. cc
@@ -178,7 +181,10 @@ poll_stays_unheld m m' p f i caller (work.Clean c) None known low = λ made may 
     let came : Went = (clean_row caller.shape c.along c.stage).next (found (clean_row caller.shape c.along c.stage).step m) in
     let same : polling caller (of_clean came) ≡ q = cc in
     subst (λ (x : Polling). x.answer ≡ None → (resumes x.work).1 ≡ None) same (clean_raises m m' caller caller.shape c.along c.stage made may (low refl)).1 unanswered
-poll_stays_unheld m m' p f i caller (work.Resize r) None known low = absurd known
+poll_stays_unheld m m' p f i caller (work.Resize r) None known low = λ made may q is unanswered.
+    let came : resizes.Went = (resize_row caller.shape r.direction r.along r.stage).next (found (resize_row caller.shape r.direction r.along r.stage).step m) in
+    let same : polling caller (of_resize r came) ≡ q = cc in
+    subst (λ (x : Polling). x.answer ≡ None → (resumes x.work).1 ≡ None) same (resize_raises m m' caller caller.shape r r.stage made may (low refl)).1 unanswered
 
 -- each step of a machine leads to no grace that is held back, unless its poll has answered
 pub machine_unheld : (m m' : Memory) (p : Past) (f : Flow) (i load : ℕ) (passed : List ℕ) (k : Machine) (s : Step) → KnowsMachine m p f i load passed k → IsUnheld (doing.Running k)

@@ -54,7 +54,7 @@ use Rattle.cht_core.proofs.Turns.{IfMakes, if_planned, past_by, flow_of}
 pub record Does (t : Table) (m : Memory) (p : Past) (f : Flow) (i load : ℕ) (passed text : List ℕ) (s : Step) (next : ℕ → Machine) : Type 0 where
   pub backs : Backs t m p f i text s
   pub leads : (m' : Memory) → IsMade s m m' → Goes t m p f i text s m' →
-      KnowsMachine m' (told p i (event_of text s (found s m))) (flow_after f i text s (found s m)) i (load_after s p.now.place load) (passed_after s passed) (next (found s m))
+      KnowsMachine m' (told p i (event_of text s (found s m))) (flow_after p.now f i text s (found s m)) i (load_after s p.now.place load) (passed_after s passed) (next (found s m))
 
 -- what is so of a row is so of its image; and two things that are so together
 pub mapped : {S T : Type 0} (P : Step → (ℕ → T) → Type 0) (g : S → T) (turn : Turn S) → IfMakes (λ (does : Row S). P does.step (λ word. g (does.next word))) turn
@@ -82,23 +82,23 @@ module _ (t : Table) (m : Memory) (p : Past) (f : Flow) (table : IsTable t m p f
         backs = serves.backs;
         leads = λ m' made goes. (
           serves.leads m' made goes,
-          own_work_grows m p f m' (past_by p i c.asked.text does.step m) (flow_of f i c.asked.text does.step m) goes.grows t table.tidy i (goes.leaves try) w known.1,
-          own_grace_grows m p f m' (past_by p i c.asked.text does.step m) (flow_of f i c.asked.text does.step m) goes.grows g known.2,
+          own_work_grows m p f m' (past_by p i c.asked.text does.step m) (flow_of p f i c.asked.text does.step m) goes.grows t table.tidy goes.table i (goes.leaves try) w known.1,
+          own_grace_grows m p f m' (past_by p i c.asked.text does.step m) (flow_of p f i c.asked.text does.step m) goes.grows g known.2,
         );
       })
       (call_serves t m p f table i inside load passed c.asked c.along asked sound.asked.room sound.asked c.stage small at sound.at.1 known.0)
       (calls_try m p f i load passed c.asked c.along c.stage known.0))
 
   -- a call that begins a work or a grace
-  begin_does : (b : Beginning) → IsOfSeat t p.now i (machine.Begin b) → KnowsMachine m p f i load passed (machine.Begin b)
+  begin_does : (b : Beginning) → IsOfSeat t p.now i (machine.Begin b) → KnowsMachine m p f i load passed (machine.Begin b) → Owes p i (doing.Running (machine.Begin b))
       → IfMakes (λ (does : Row Machine). CanRaise m does.step → Does t m p f i load passed [] does.step does.next) (turn_of (machine.Begin b))
-  begin_does b of known =
+  begin_does b of known owes =
       mapped (λ s next. CanRaise m s → Does t m p f i load passed [] s next) (λ s. machine.Begin (record b { stage = s })) (begin_turn b.caller b.stage)
       (both_make (λ (does : Row BeginStage). CanRaise m does.step → Backs t m p f i [] does.step)
-      (λ (does : Row BeginStage). IsOutside (past_by p i [] does.step m).now i × KnowsBegin (past_by p i [] does.step m).now i (does.next (found does.step m)))
+      (λ (does : Row BeginStage). IsOutside (past_by p i [] does.step m).now i × KnowsBegin (past_by p i [] does.step m).now (flow_of p f i [] does.step m) i (does.next (found does.step m)))
       (λ (does : Row BeginStage). CanRaise m does.step → Does t m p f i load passed [] does.step (λ word. machine.Begin (record b { stage = does.next word }))) (begin_turn b.caller b.stage)
       (λ does backs next may. record { backs = backs may; leads = λ m' made goes. next })
-      (begin_backs t m p f i [] b.caller b.stage known.1)
+      (begin_backs t m p f i [] b.caller b.stage owes.unlinked known.1)
       (begin_next t m p f i [] b.caller b.stage table of.shape known.0 known.1))
 
   -- a poll of a work
@@ -108,7 +108,7 @@ module _ (t : Table) (m : Memory) (p : Past) (f : Flow) (table : IsTable t m p f
       mapped (λ s next. CanRaise m s → Does t m p f i load passed [] s next) (λ at. machine.Poll (polling q.caller at)) (poll_turn q.caller (state_of q))
       (both_make (λ (does : Row (Work × Option Answer)). CanRaise m does.step → Backs t m p f i [] does.step)
       (λ (does : Row (Work × Option Answer)). (m' : Memory) → IsMade does.step m m' → Goes t m p f i [] does.step m' →
-      KnowsMachine m' (past_by p i [] does.step m) (flow_of f i [] does.step m) i (load_after does.step p.now.place load) (passed_after does.step passed) (machine.Poll (polling q.caller (does.next (found does.step m)))))
+      KnowsMachine m' (past_by p i [] does.step m) (flow_of p f i [] does.step m) i (load_after does.step p.now.place load) (passed_after does.step passed) (machine.Poll (polling q.caller (does.next (found does.step m)))))
       (λ (does : Row (Work × Option Answer)). CanRaise m does.step → Does t m p f i load passed [] does.step (λ word. machine.Poll (polling q.caller (does.next word)))) (poll_turn q.caller (state_of q))
       (λ does backs next may. record { backs = backs may; leads = next })
       (poll_backs t m p f i [] q of.shape of.sound.work owes known.1)
@@ -116,9 +116,9 @@ module _ (t : Table) (m : Memory) (p : Past) (f : Flow) (table : IsTable t m p f
     where
       any_memory : (turn : Turn (Work × Option Answer))
           → ((m' : Memory) → IfMakes (λ (does : Row (Work × Option Answer)). IsMade does.step m m' → Goes t m p f i [] does.step m' → let came = does.next (found does.step m) in
-          IsOutside (past_by p i [] does.step m).now i × IfSome (work_left came.0 came.1) (KnowsWork m' (past_by p i [] does.step m) (flow_of f i [] does.step m) i)) turn)
+          IsOutside (past_by p i [] does.step m).now i × IfSome (work_left came.0 came.1) (KnowsWork m' (past_by p i [] does.step m) (flow_of p f i [] does.step m) i)) turn)
           → IfMakes (λ (does : Row (Work × Option Answer)). (m' : Memory) → IsMade does.step m m' → Goes t m p f i [] does.step m' →
-          KnowsMachine m' (past_by p i [] does.step m) (flow_of f i [] does.step m) i (load_after does.step p.now.place load) (passed_after does.step passed) (machine.Poll (polling q.caller (does.next (found does.step m))))) turn
+          KnowsMachine m' (past_by p i [] does.step m) (flow_of p f i [] does.step m) i (load_after does.step p.now.place load) (passed_after does.step passed) (machine.Poll (polling q.caller (does.next (found does.step m))))) turn
       any_memory (Answered a) all = tt
       any_memory (Makes does) all = λ m' made goes. all m' made goes
 
@@ -129,7 +129,7 @@ module _ (t : Table) (m : Memory) (p : Past) (f : Flow) (table : IsTable t m p f
       mapped (λ k next. CanRaise m k → Does t m p f i load passed [] k next) (λ at. machine.Sweep (sweeps.goes_to s.asked at)) (sweep_turn s.asked s.along s.stage)
       (both_make (λ (does : Row (SweepAlong × SweepStage)). CanRaise m does.step → Backs t m p f i [] does.step)
       (λ (does : Row (SweepAlong × SweepStage)). (m' : Memory) → IsMade does.step m m' → Goes t m p f i [] does.step m' →
-      KnowsSwept m' (past_by p i [] does.step m) (flow_of f i [] does.step m) i s.asked (does.next (found does.step m)))
+      KnowsSwept m' (past_by p i [] does.step m) (flow_of p f i [] does.step m) i s.asked (does.next (found does.step m)))
       (λ (does : Row (SweepAlong × SweepStage)). CanRaise m does.step → Does t m p f i load passed [] does.step (λ word. machine.Sweep (sweeps.goes_to s.asked (does.next word)))) (sweep_turn s.asked s.along s.stage)
       (λ does backs next may. record { backs = backs may; leads = next })
       (sweep_backs t m p f i [] s.asked s.along s.stage table of.sound known)
@@ -137,9 +137,9 @@ module _ (t : Table) (m : Memory) (p : Past) (f : Flow) (table : IsTable t m p f
     where
       any_memory : (turn : Turn (SweepAlong × SweepStage))
           → ((m' : Memory) → IfMakes (λ (does : Row (SweepAlong × SweepStage)). IsMade does.step m m' → Goes t m p f i [] does.step m' →
-          KnowsSwept m' (past_by p i [] does.step m) (flow_of f i [] does.step m) i s.asked (does.next (found does.step m))) turn)
+          KnowsSwept m' (past_by p i [] does.step m) (flow_of p f i [] does.step m) i s.asked (does.next (found does.step m))) turn)
           → IfMakes (λ (does : Row (SweepAlong × SweepStage)). (m' : Memory) → IsMade does.step m m' → Goes t m p f i [] does.step m' →
-          KnowsSwept m' (past_by p i [] does.step m) (flow_of f i [] does.step m) i s.asked (does.next (found does.step m))) turn
+          KnowsSwept m' (past_by p i [] does.step m) (flow_of p f i [] does.step m) i s.asked (does.next (found does.step m))) turn
       any_memory (Answered a) all = tt
       any_memory (Makes does) all = λ m' made goes. all m' made goes
 
@@ -149,7 +149,7 @@ module _ (t : Table) (m : Memory) (p : Past) (f : Flow) (table : IsTable t m p f
   machine_does (machine.Call c w g) s of known owes small may is =
       if_planned (λ made next. Does t m p f i load passed c.asked.text made next) (machine.Call c w g) (turn_of (machine.Call c w g)) s (call_does c w g of known small) is
   machine_does (machine.Begin b) s of known owes small may is =
-      if_planned (λ made next. CanRaise m made → Does t m p f i load passed [] made next) (machine.Begin b) (turn_of (machine.Begin b)) s (begin_does b of known) is may
+      if_planned (λ made next. CanRaise m made → Does t m p f i load passed [] made next) (machine.Begin b) (turn_of (machine.Begin b)) s (begin_does b of known owes) is may
   machine_does (machine.Poll q) s of known owes small may is =
       if_planned (λ made next. CanRaise m made → Does t m p f i load passed [] made next) (machine.Poll q) (turn_of (machine.Poll q)) s (poll_does q of known owes) is may
   machine_does (machine.Sweep w) s of known owes small may is =

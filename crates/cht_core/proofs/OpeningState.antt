@@ -17,6 +17,7 @@ use Rattle.cht_core.specs.declared.seat.Seat.TheVariants as doing
 use Rattle.cht_core.specs.declared.table.Table.{Table}
 use Rattle.cht_core.specs.Bounds.{Bounds, of_seat, over_seats, draws_in, raises_in, work_of}
 use Rattle.cht_core.specs.Flow.{Flow}
+use Rattle.cht_core.specs.Graces.{GrowsWithFew}
 use Rattle.cht_core.specs.Heads.{Heads}
 use Rattle.cht_core.specs.Invariant.{Inv, Numbers, Holds}
 use Rattle.cht_core.specs.Chains.{Chains}
@@ -25,6 +26,7 @@ use Rattle.cht_core.specs.Memory.{Memory, is_inside}
 use Rattle.cht_core.specs.Owes.{IsAllOf}
 use Rattle.cht_core.specs.Past.{Past, past_of}
 use Rattle.cht_core.specs.Slots.{Slots}
+use Rattle.cht_core.specs.Stage.{Quiet, Whole}
 use Rattle.cht_core.specs.TableState.{IsTable, Words}
 use Rattle.cht_core.specs.Tidy.{IsTidy}
 use Rattle.cht_core.specs.View.{View, Knows}
@@ -36,9 +38,9 @@ pub record IsOpening (t : Table) (m : Memory) : Type 0 where
   pub level : m place.Level ≡ t.shape.min_level
   pub other : (p : Place) → p ≢ place.Draws → p ≢ place.Counter → p ≢ place.Level → m p ≡ 0
 
--- nothing is on a chain, and nobody holds anything
+-- nothing is on a chain, nobody holds anything, and there is no resize
 abbrev pub opening_flow : Flow
-opening_flow = record { chain = λ row bucket. []; base = λ row bucket. 0; holds = λ k h. 0 }
+opening_flow = record { chain = λ row bucket. []; base = λ row bucket. 0; holds = λ k h. 0; stage = Quiet; parted = λ s. Whole; before = 0 }
 
 -- what a new table has told, and its first seat
 abbrev pub opening_past : Table → Past
@@ -156,7 +158,10 @@ module _ (t : Table) (m : Memory) (shape : IsSound t.shape) (even : t.first_coun
     new_level = unset place.NewLevel refl;
     owner = unset place.ResizeLock refl;
     paths = λ row bucket used. (None, unset (place.Head row bucket) refl, refl);
+    behind = λ row bucket left. absurd left.1;
     held = λ row bucket k is. absurd (cc);
+    gone = λ bucket gone. absurd gone;
+    pinned = λ row bucket pinned. absurd pinned;
   }
 
   opening_chains : Chains (opening t.shape.min_level) opening_flow
@@ -164,8 +169,11 @@ module _ (t : Table) (m : Memory) (shape : IsSound t.shape) (even : t.first_coun
     on_linked = λ row bucket s used on. absurd on;
     linked_on = λ s text h at row is comes. absurd (cc);
     once = λ row bucket used. tt;
-    ranked = λ row bucket used. tt;
+    ranked = λ row bucket used. inr tt;
     bases = λ row bucket. omega arith;
+    sides = λ row bucket s text h at used on is. absurd on;
+    loose = λ s. inl refl;
+    within = tt;
   }
 
   -- a new table is as it should be
@@ -182,6 +190,11 @@ module _ (t : Table) (m : Memory) (shape : IsSound t.shape) (even : t.first_coun
     };
     heads = opening_heads;
     chains = opening_chains;
+    clear = λ k o is. absurd (cc);
+    idle = λ none. refl;
+    whole = λ settled. tt;
+    row = λ r is. absurd (cc);
+    named = λ level is. absurd (cc);
     ledger = λ counted. record {
       live = λ text e is below. absurd (no_text_has text e.handle (e, is, refl));
       gone = λ h dead. sum_of_nothing t.shape.seats (λ k. 0) (λ k. refl);
@@ -273,4 +286,5 @@ module _ (t : Table) (m : Memory) (shape : IsSound t.shape) (even : t.first_coun
       holds = opening_holds;
       lawful = λ short. record { allowed = tt; fresh = tt };
       edges = λ s next k at is. absurd (cc);
+      graces = λ k v is. subst (λ (x : View). GrowsWithFew (opening_past t).now [] opening_flow x.seat) (sym (only_first k v is).1) (tt, tt);
     }

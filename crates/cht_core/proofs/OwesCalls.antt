@@ -76,5 +76,5 @@ begin_has p i b word owes =
     record {
       claimed = claimed_stays p i (begin_event b word) None none.0 owes.claimed;
       unlinked = waits_stay p i (begin_event b word) [] none.1 owes.unlinked;
-      locked = locked_stays p i (begin_event b word) None none.2 owes.locked;
+      locked = locked_stays p i (begin_event b word) [] none.2 owes.locked;
     }

@@ -1,15 +1,16 @@
 -- What an event of a seat makes of what the seat has: the slot that it has claimed, the slots that it has unlinked, the bucket that it
 -- has locked, and the resize lock.
 use Rattle.std.proofs.Common.{◌≡◌, ◌≢◌, ℕ, ◌≤◌, ◌^◌, ◌⊎◌, ◌==◌, ◌&&◌, inl, inr, Bool, true, false, cond, List, [], ◌∷◌, ◌++◌, Option, Some, None, refl, sym, ap, subst, ◌∙◌, arith}
+use Rattle.std.specs.Option.{option_to_list}
 use Rattle.std.specs.Prelude.{nat_eq}
-use Rattle.std.proofs.lemmas.Bool.{cases_eq, eqb-true}
+use Rattle.std.proofs.lemmas.Bool.{cases_eq, eq-eqb, eqb-true}
 use Rattle.chain_core.specs.Nodes.{On}
 use Rattle.chain_core.proofs.Members.{on_left, on_right}
 use Rattle.intern_log.specs.declared.event.What.{What}
 use Rattle.intern_log.specs.declared.event.What.TheVariants as what
 use Rattle.intern_log.specs.Now.{Vacant, Claimed, Linked, Unlinked, owner_of, with_at}
 use Rattle.intern_log.proofs.Slots.{same_owner}
-use Rattle.atomic_step.specs.Monitor.{after_one}
+use Rattle.atomic_step.specs.Monitor.{after_one, is_held, is_lock_of}
 use Rattle.atomic_step.specs.Monitor as monitor
 use Rattle.call_machine.specs.WorkMonitor as works
 use Rattle.cht_core.specs.Past.{Past, told}
@@ -24,9 +25,12 @@ ClaimedAtMost p i claimed = (slot : ℕ) → p.now.slot slot ≡ Claimed i → c
 abbrev pub UnlinkedAtMost : Past → ℕ → List ℕ → Type 0
 UnlinkedAtMost p i waiting = (slot at : ℕ) → p.now.slot slot ≡ Unlinked i at → On slot waiting ⊎ (2 ^ 48 ≤ p.uses slot)
 
--- the seat has locked at most this bucket
-abbrev pub LockedAtMost : Past → ℕ → Option (ℕ × ℕ) → Type 0
-LockedAtMost p i lock = (row bucket : ℕ) → p.now.lock row bucket ≡ Some i → lock ≡ Some (row, bucket)
+-- the seat has locked at most these heads; and at most this one
+abbrev pub LockedAtMost : Past → ℕ → List (ℕ × ℕ) → Type 0
+LockedAtMost p i heads = (row bucket : ℕ) → p.now.lock row bucket ≡ Some i → is_held row bucket heads ≡ true
+
+abbrev pub LockedOne : Past → ℕ → Option (ℕ × ℕ) → Type 0
+LockedOne p i lock = (row bucket : ℕ) → p.now.lock row bucket ≡ Some i → lock ≡ Some (row, bucket)
 
 -- the seat has the resize lock at most where this is so
 abbrev pub OwnsAtMost : Past → ℕ → Bool → Type 0
@@ -206,21 +210,21 @@ no_bucket : (row bucket : ℕ) → ◌≡◌ {A = Option (ℕ × ℕ)} None (Som
 no_bucket row bucket is = absurd (cc)
 
 -- the row of a level alone keeps its locks
-lock_of_row : (i : ℕ) (of_level : Bool) (owner : Option ℕ) → cond of_level owner None ≡ Some i → owner ≡ Some i
+pub lock_of_row : (i : ℕ) (of_level : Bool) (owner : Option ℕ) → cond of_level owner None ≡ Some i → owner ≡ Some i
 lock_of_row i true owner now = now
 lock_of_row i false owner now = absurd (cc)
 
--- after an event that the monitor of locks allows the seat has locked at most the bucket that the monitor says
-pub locked_after : (p : Past) (i : ℕ) (e : Option What) (lock after : Option (ℕ × ℕ)) → LockedAtMost p i lock → after_one works.locked lock e ≡ Some after
-    → LockedAtMost (told p i e) i after
-locked_after p i None lock after had is r b now = let same : lock ≡ after = cc in sym same ∙ had r b now
-locked_after p i (Some (what.Lock row bucket)) None after had is r b now = elim (bucket_cases row bucket r b) [
+-- after an event that the monitor of one lock allows the seat has locked at most the bucket that the monitor says
+one_after : (p : Past) (i : ℕ) (e : Option What) (lock after : Option (ℕ × ℕ)) → LockedOne p i lock → after_one works.locked lock e ≡ Some after
+    → LockedOne (told p i e) i after
+one_after p i None lock after had is r b now = let same : lock ≡ after = cc in sym same ∙ had r b now
+one_after p i (Some (what.Lock row bucket)) None after had is r b now = elim (bucket_cases row bucket r b) [
   | inl same ↦ let rows : r ≡ row = same.0 in let buckets : b ≡ bucket = same.1 in cc
   | inr differ ↦ absurd (no_bucket r b (had r b (sym (lock_elsewhere p.now.lock row bucket (Some i) r b differ) ∙ now)))
 ]
-locked_after p i (Some (what.Lock row bucket)) (Some own) after had is r b now = absurd (cc)
-locked_after p i (Some (what.Unlock row bucket)) None after had is r b now = absurd (cc)
-locked_after p i (Some (what.Unlock row bucket)) (Some own) after had is r b now = elim (bucket_cases row bucket r b) [
+one_after p i (Some (what.Lock row bucket)) (Some own) after had is r b now = absurd (cc)
+one_after p i (Some (what.Unlock row bucket)) None after had is r b now = absurd (cc)
+one_after p i (Some (what.Unlock row bucket)) (Some own) after had is r b now = elim (bucket_cases row bucket r b) [
   | inl same ↦ let clash : None ≡ Some i = sym (lock_here p.now.lock row bucket None r b same.0 same.1) ∙ now in absurd (cc)
   | inr differ ↦
       let was : Some own ≡ Some (r, b) = had r b (sym (lock_elsewhere p.now.lock row bucket None r b differ) ∙ now) in
@@ -228,11 +232,39 @@ locked_after p i (Some (what.Unlock row bucket)) (Some own) after had is r b now
       let (rows, buckets) = own_unlocked row bucket own after is in
       absurd (differ (sym (ap (λ z. z.0) own_is) ∙ rows) (sym (ap (λ z. z.1) own_is) ∙ buckets))
 ]
-locked_after p i (Some (what.Level level)) lock after had is r b now = let same : lock ≡ after = cc in sym same ∙ had r b (lock_of_row i (nat_eq r level) (p.now.lock r b) now)
-locked_after p i (Some _) lock after had is r b now = let same : lock ≡ after = cc in sym same ∙ had r b now
+one_after p i (Some (what.Level level)) lock after had is r b now = let same : lock ≡ after = cc in sym same ∙ had r b (lock_of_row i (nat_eq r level) (p.now.lock r b) now)
+one_after p i (Some _) lock after had is r b now = let same : lock ≡ after = cc in sym same ∙ had r b now
+
+-- one head is the list of it
+is_head : (row bucket : ℕ) (own : ℕ × ℕ) → is_lock_of row bucket own ≡ true → own ≡ (row, bucket)
+is_head row bucket (r, b) is = go (r == row) (b == bucket) refl refl is
+  where
+    go : (x y : Bool) → (r == row) ≡ x → (b == bucket) ≡ y → x && y ≡ true → ◌≡◌ {A = ℕ × ℕ} (r, b) (row, bucket)
+    go true true rows buckets is = let same : r ≡ row = eqb-true r row rows in let here : b ≡ bucket = eqb-true b bucket buckets in cc
+    go true false rows buckets is = absurd (cc)
+    go false y rows buckets is = absurd (cc)
+
+pub same_head : (row bucket : ℕ) → is_lock_of row bucket (row, bucket) ≡ true
+same_head row bucket = ap (λ x. x && (bucket == bucket)) (eq-eqb row row refl) ∙ eq-eqb bucket bucket refl
+
+as_one : (p : Past) (i : ℕ) (lock : Option (ℕ × ℕ)) → LockedAtMost p i (option_to_list lock) → LockedOne p i lock
+as_one p i None had r b now = let never : false ≡ true = had r b now in absurd (cc)
+as_one p i (Some own) had r b now = ap Some (is_head r b own (go (is_lock_of r b own) (had r b now)))
+  where
+    go : (x : Bool) → cond x true false ≡ true → x ≡ true
+    go true is = refl
+    go false is = is
+
+as_list : (p : Past) (i : ℕ) (lock : Option (ℕ × ℕ)) → LockedOne p i lock → LockedAtMost p i (option_to_list lock)
+as_list p i lock had r b now =
+    subst (λ (o : Option (ℕ × ℕ)). is_held r b (option_to_list o) ≡ true) (sym (had r b now)) (ap (λ x. cond x true false) (same_head r b))
+
+pub locked_after : (p : Past) (i : ℕ) (e : Option What) (lock after : Option (ℕ × ℕ)) → LockedAtMost p i (option_to_list lock) → after_one works.locked lock e ≡ Some after
+    → LockedAtMost (told p i e) i (option_to_list after)
+locked_after p i e lock after had is = as_list (told p i e) i after (one_after p i e lock after (as_one p i lock had) is)
 
 -- by an event that locks no bucket the seat has locked no other bucket than before
-pub locked_stays : (p : Past) (i : ℕ) (e : Option What) (lock : Option (ℕ × ℕ)) → HasNoLock e → LockedAtMost p i lock → LockedAtMost (told p i e) i lock
+pub locked_stays : (p : Past) (i : ℕ) (e : Option What) (lock : List (ℕ × ℕ)) → HasNoLock e → LockedAtMost p i lock → LockedAtMost (told p i e) i lock
 locked_stays p i None lock none had r b now = had r b now
 locked_stays p i (Some (what.Lock row bucket)) lock none had r b now = absurd none
 locked_stays p i (Some (what.Unlock row bucket)) lock none had r b now = elim (bucket_cases row bucket r b) [

@@ -1,4 +1,5 @@
 -- What the log says that a seat has, it is at: so it is of a new seat, as a call begins, and once it has answered.
+use Rattle.std.specs.Option.{option_to_list}
 use Rattle.std.proofs.Common.{inr, ◌≡◌, ℕ, ◌^◌, false, [], Option, Some, None, refl, sym, subst, ◌∙◌, ⊎_elim}
 use Rattle.std.specs.Prelude.{nat_le, is_some}
 use Rattle.text_words.specs.Hash.{hash_of}
@@ -23,6 +24,11 @@ use Rattle.call_machine.specs.declared.machine.Machine.{Machine}
 use Rattle.call_machine.specs.declared.machine.Machine.TheVariants as machine
 use Rattle.call_machine.specs.declared.machine.Own.{Own}
 use Rattle.call_machine.specs.declared.stage.Calling.{Calling}
+use Rattle.call_machine.specs.declared.resize.Direction.TheVariants.{Grow, Shrink}
+use Rattle.call_machine.specs.declared.resize.ResizeAlong.{ResizeAlong}
+use Rattle.call_machine.specs.declared.resize.ResizeStage.{ResizeStage}
+use Rattle.call_machine.specs.declared.resize.ResizeStage.TheVariants as stage
+use Rattle.call_machine.specs.Resize.{resumed}
 use Rattle.call_machine.specs.declared.sweep.SweepAlong.{SweepAlong}
 use Rattle.call_machine.specs.declared.sweep.SweepAsked.{SweepAsked}
 use Rattle.call_machine.specs.declared.sweep.SweepStage.{SweepStage}
@@ -58,14 +64,15 @@ owes_of_new_seat p i own nothing = record {
 }
 
 -- no slot waits for a work that has just begun, and it has locked no bucket
-begun_has_nothing : (shape : Shape) (l : Left) → (waiting_of_work (begun_work shape l) ≡ []) × (locked_in_work (begun_work shape l) ≡ None)
+begun_has_nothing : (shape : Shape) (l : Left) → (waiting_of_work (begun_work shape l) ≡ []) × (locked_in_work (begun_work shape l) ≡ [])
 begun_has_nothing shape left.Nothing = (refl, refl)
 begun_has_nothing shape left.Clean = (refl, refl)
-begun_has_nothing shape (left.Resize d level) = (refl, refl)
+begun_has_nothing shape (left.Resize Grow level) = (refl, refl)
+begun_has_nothing shape (left.Resize Shrink level) = (refl, refl)
 begun_has_nothing shape (left.Grace g) = (refl, refl)
 
 -- nor does one for a sweep that has answered
-swept_has_nothing : (q : SweepAsked) (w : SweepAlong) (s : SweepStage) (a : Answer) → plan_at q w s ≡ plan.Answered a → (sweeps.still_waiting w.cleaning s ≡ []) × (sweeps.locked_at w.cleaning s ≡ None)
+swept_has_nothing : (q : SweepAsked) (w : SweepAlong) (s : SweepStage) (a : Answer) → plan_at q w s ≡ plan.Answered a → (sweeps.still_waiting w.cleaning s ≡ []) × (option_to_list (sweeps.locked_at w.cleaning s) ≡ [])
 swept_has_nothing q w (sweep.Answered b) a is = (refl, refl)
 swept_has_nothing q w _ a is = absurd (cc)
 
@@ -101,7 +108,7 @@ beside_has p i own c owes = record {
 }
 
 -- at rest without a work no slot waits and no bucket is locked
-no_work_has : (p : Past) (i : ℕ) (w : Option Work) → is_some w ≡ false → UnlinkedAtMost p i (waiting_of_work w) → LockedAtMost p i (locked_in_work w) → UnlinkedAtMost p i [] × LockedAtMost p i None
+no_work_has : (p : Past) (i : ℕ) (w : Option Work) → is_some w ≡ false → UnlinkedAtMost p i (waiting_of_work w) → LockedAtMost p i (locked_in_work w) → UnlinkedAtMost p i [] × LockedAtMost p i []
 no_work_has p i None none waits locks = (waits, locks)
 no_work_has p i (Some w) none waits locks = absurd (cc)
 
@@ -126,11 +133,12 @@ abbrev IsLeft : Work → Work → Option Answer → Type 0
 IsLeft w v a = (waiting_of_work (work_left v a) ≡ waiting_of_work (Some w)) × (locked_in_work (work_left v a) ≡ locked_in_work (Some w))
 
 resumes_leaves : (w : Work) → IsLeft w (resumes w).0 (resumes w).1
-resumes_leaves (work.Resize r) = of_resize (resumes (work.Resize r)).1
+resumes_leaves (work.Resize r) = of_resize r.along r.stage
   where
-    of_resize : (a : Option Answer) → IsLeft (work.Resize r) (work.Resize r) a
-    of_resize (Some (answer.Done did)) = (refl, refl)
-    of_resize _ = (refl, refl)
+    of_resize : (w : ResizeAlong) (s : ResizeStage) → IsLeft (work.Resize r) (work.Resize r) (resumed w s)
+    of_resize w (stage.Grace then_do RaiseCounter) = either_way (IsLeft (work.Resize r) (work.Resize r)) (nat_le (2 ^ 63) w.grace.raised) (Some (answer.PendingSeat 0)) None (refl, refl) (refl, refl)
+    of_resize w (stage.Grace then_do LoadSection) = (refl, refl)
+    of_resize w _ = (refl, refl)
 resumes_leaves (work.Clean c) = at_stage c.along c.stage
   where
     at_stage : (w : CleanAlong) (s : CleanStage) → let came = of_clean (begins_poll w s) in IsLeft (work.Clean (record { along = w; stage = s })) came.0 came.1

@@ -1,5 +1,6 @@
 -- What a step of a clean or a sweep makes of what its seat has.
 use Rattle.std.proofs.Common.{◌≡◌, ℕ, ◌+◌, ◌≤◌, ◌^◌, ◌⊎◌, inl, inr, Bool, true, false, cond, List, [], ◌∷◌, Option, Some, None, refl, sym, ap, subst, ◌∙◌, arith, rules}
+use Rattle.std.specs.Option.{option_to_list}
 use Rattle.std.specs.Prelude.{nat_lt, IfSome}
 use Rattle.std.proofs.lemmas.Bool.{ltb-false}
 use Rattle.intern_log.specs.declared.event.What.{What}
@@ -51,6 +52,7 @@ use Rattle.cht_core.specs.Owes.{Owes, waiting_of_work, locked_in_work}
 use Rattle.cht_core.specs.Past.{Past, told}
 use Rattle.cht_core.specs.Slots.{Slots}
 use Rattle.cht_core.proofs.OwesCalls.{HasAtMost}
+use Rattle.cht_core.proofs.OwesResize.{resize_has}
 use Rattle.cht_core.proofs.OwesKept.{UnlinkedAtMost, LockedAtMost, HasNoClaim, claimed_stays, waits_after, never_waits, locked_after}
 
 -- the event that is due is the one that was made, or none where a slot was unlinked that was used 2^48 times
@@ -121,7 +123,7 @@ not_done shape w s word did at done other =
 
 -- and so has locked no bucket, and no slot waits
 abbrev NothingLeft : Went → Type 0
-NothingLeft went = (still_waiting went.0.cleaning went.1 ≡ []) × (locked_at went.0.cleaning went.1 ≡ None)
+NothingLeft went = (still_waiting went.0.cleaning went.1 ≡ []) × (option_to_list (locked_at went.0.cleaning went.1) ≡ [])
 
 done_leaves_nothing : (shape : Shape) (w : CleanAlong) (s : CleanStage) (word : ℕ) (did : Worked) → IsSoundAt w.cleaning s → ((clean_row shape w s).next word).2 ≡ Some (answer.Done did)
     → NothingLeft ((clean_row shape w s).next word)
@@ -138,7 +140,7 @@ left_unlinked p i (w, s, None) done has = has
 left_unlinked p i (w, s, Some (answer.Done did)) done has = subst (UnlinkedAtMost p i) (done did refl).0 has
 left_unlinked p i (w, s, Some _) done has = has
 
-left_locked : (p : Past) (i : ℕ) (went : Went) → ((did : Worked) → went.2 ≡ Some (answer.Done did) → NothingLeft went) → LockedAtMost p i (locked_at went.0.cleaning went.1)
+left_locked : (p : Past) (i : ℕ) (went : Went) → ((did : Worked) → went.2 ≡ Some (answer.Done did) → NothingLeft went) → LockedAtMost p i (option_to_list (locked_at went.0.cleaning went.1))
     → LockedAtMost p i (locked_in_work (work_left (work_of_went went) went.2))
 left_locked p i (w, s, None) done has = has
 left_locked p i (w, s, Some (answer.Done did)) done has = subst (LockedAtMost p i) (done did refl).1 has
@@ -161,12 +163,12 @@ clean_has t m p f i caller c word slots at known owes =
       locked = left_locked (told p i e) i went done (locked_after p i e (locked_at c.along.cleaning c.stage) (locked_at went.0.cleaning went.1) owes.locked follows.0);
     }
 
--- after a step of a poll; it has not answered, and the works of a table of one level are cleans
+-- after a step of a poll; it has not answered
 pub poll_has : (t : Table) (m : Memory) (p : Past) (f : Flow) (i : ℕ) (caller : Caller) (w : Work) (a : Option Answer) (word : ℕ) → Slots t m p → IsSoundWork caller.shape w
     → IfSome (work_left w a) (KnowsWork m p f i) → FitsPoll (polling caller (w, a)) word → Owes p i (doing.Running (machine.Poll (polling caller (w, a))))
     → HasAtMost (told p i (poll_event (polling caller (w, a)) word)) i (doing.Running (machine.Poll (poll_got (polling caller (w, a)) word)))
 poll_has t m p f i caller w (Some a) word slots sound known fits owes = absurd fits
-poll_has t m p f i caller (work.Resize r) None word slots sound known fits owes = absurd known
+poll_has t m p f i caller (work.Resize r) None word slots sound known fits owes = resize_has m p f i caller r word sound known owes
 poll_has t m p f i caller (work.Clean c) None word slots sound known fits owes = clean_has t m p f i caller c word slots sound.at known.1 owes
 
 sweep_due : (t : Table) (m : Memory) (p : Past) (f : Flow) (i : ℕ) (q : SweepAsked) (w : SweepAlong) (s : SweepStage) (word : ℕ) → Slots t m p → KnowsSweep m p f i q w s

@@ -23,7 +23,8 @@ use Rattle.cht_core.specs.declared.seat.Seat.{Seat}
 use Rattle.cht_core.specs.declared.seat.Seat.TheVariants as doing
 use Rattle.cht_core.specs.declared.table.Table.{Table}
 use Rattle.cht_core.specs.Flow.{Flow}
-use Rattle.cht_core.specs.KnowsWork.{Graced, KnowsGrace, KnowsWork, KnowsCleaning, KnowsSweep, KnowsBegin, KnowsWaited, AreWaiting, slots_in}
+use Rattle.cht_core.specs.KnowsResize.{Graced}
+use Rattle.cht_core.specs.KnowsWork.{KnowsGrace, KnowsWork, KnowsCleaning, KnowsSweep, KnowsBegin, KnowsWaited, AreWaiting, slots_in}
 use Rattle.cht_core.specs.Memory.{Memory}
 use Rattle.cht_core.specs.Parts.{own_grace, begun_grace, waited_grace, work_grace, clean_grace, sweep_grace, HasGrace}
 use Rattle.cht_core.specs.Past.{Past}
@@ -62,7 +63,7 @@ module _ (m : Memory) (p : Past) (f : Flow) (k : ℕ) where
   work_place : (begun : Grace × List ℕ) (w : Option Work) → IfSome w (KnowsWork m p f k) → work_grace w ≡ Some begun → HasPlace p k begun
   work_place begun None known is = absurd (cc)
   work_place begun (Some (work.Clean c)) known is = clean_place begun c.along c.stage known.1 is
-  work_place begun (Some (work.Resize r)) known is = absurd known
+  work_place begun (Some (work.Resize r)) known is = absurd (cc)
 
   sweep_place : (begun : Grace × List ℕ) (q : SweepAsked) (w : SweepAlong) (s : SweepStage) → KnowsSweep m p f k q w s → sweep_grace w s ≡ Some begun → HasPlace p k begun
   sweep_place begun q w sweep.Check known is = absurd (cc)
@@ -81,7 +82,7 @@ module _ (m : Memory) (p : Past) (f : Flow) (k : ℕ) where
   same_own : (a b : Grace) → Some a ≡ Some b → KnowsGrace p.now a → KnowsGrace p.now b
   same_own a b is known = let same : a ≡ b = cc in subst (KnowsGrace p.now) same known
 
-  begun_place : (g : Grace) (s : BeginStage) → KnowsBegin p.now k s → begun_grace s ≡ Some g → KnowsGrace p.now g
+  begun_place : (g : Grace) (s : BeginStage) → KnowsBegin p.now f k s → begun_grace s ≡ Some g → KnowsGrace p.now g
   begun_place g (begin.LoadCounter t) known is = absurd (cc)
   begun_place g (begin.TakeResizeLock t) known is = absurd (cc)
   begun_place g (begin.LoadLevel d) known is = absurd (cc)

@@ -5,7 +5,7 @@ use Rattle.chain_core.specs.Nodes.{On}
 use Rattle.chain_core.specs.Path.{IsPath}
 use Rattle.chain_core.proofs.Ways.{path_one}
 use Rattle.text_words.specs.Hash.{hash_of}
-use Rattle.marked_word.specs.Head.{is_locked, first_of}
+use Rattle.marked_word.specs.Head.{is_locked, is_redirected, first_of}
 use Rattle.marked_word.specs.Number.{section_word}
 use Rattle.table_shape.specs.declared.place.Place.TheVariants as place
 use Rattle.intern_log.specs.declared.event.Entry.{Entry}
@@ -23,14 +23,15 @@ use Rattle.call_machine.specs.declared.stage.Calling.{Calling}
 use Rattle.cht_core.specs.declared.table.Table.{Table}
 use Rattle.cht_core.specs.Chains.{AreRanked, birth, born}
 use Rattle.cht_core.specs.Edges.{UnlinkedLead}
-use Rattle.cht_core.specs.Flow.{Flow, IsUsed, bucket_in}
+use Rattle.cht_core.specs.Flow.{Flow, IsUsed, ComesTo}
+use Rattle.cht_core.specs.Stage.{bucket_in, IsPinned}
 use Rattle.cht_core.specs.Invariant.{Inv}
 use Rattle.cht_core.specs.Memory.{Memory, links}
 use Rattle.cht_core.specs.Parts.{EdgesLead, UnlinkedLeadLater, SectionsAreCounted, SectionsAreCountedAtOpen, WalkersStandSafely, WalkersAreLedSafely}
 use Rattle.cht_core.specs.Parts.{GracesHavePlaces, PassedSectionsAreNewer, IsWalk, WalksAreRouted, WalkersMissNothing}
 use Rattle.cht_core.specs.Parts.{FirstNodesAreOld, InsertedTextsAreAbsent, NodesAreVisitedOnce, PassedNodesAreFew, call_of}
 use Rattle.cht_core.specs.Past.{Past, past_of, kind_of}
-use Rattle.cht_core.specs.Search.{IsLinked, IsAnchor}
+use Rattle.cht_core.specs.Search.{IsLinked, IsAnchor, IsRouted}
 use Rattle.cht_core.specs.TableState.{IsTable}
 use Rattle.cht_core.specs.View.{View}
 use Rattle.cht_core.proofs.CreateParts.{all_before_load}
@@ -40,7 +41,10 @@ use Rattle.cht_core.proofs.HeadWords.{first_of_head}
 use Rattle.cht_core.proofs.Locking.{unlocked_path}
 use Rattle.cht_core.proofs.PartsGraced.{grace_known}
 use Rattle.cht_core.proofs.PartsKnown.{CallKnown, call_known, WalkKnown, walk_known, held_known}
-use Rattle.cht_core.proofs.Walks.{few_passed, routed_used, none_ahead}
+use Rattle.cht_core.proofs.Routes.{comes_where_plain, joined_locked, settled_row, free_row}
+use Rattle.cht_core.proofs.Stages.{comes_used}
+use Rattle.cht_core.proofs.TwoChains.{exact_one, used_comes}
+use Rattle.cht_core.proofs.Walks.{few_passed, none_ahead}
 
 -- a section word without its lowest bit is at most the counter that its section was opened with, and that is at most the present one
 below_counter : (word counter : ℕ) (section : Option OpenSection) → word ≡ section_word (option_map (λ (o : OpenSection). o.counter) section) → (word ≡ 0) ⊎ (word % 2 ≡ 1)
@@ -93,7 +97,21 @@ module _ (t : Table) (m : Memory) (p : Past) (f : Flow) (table : IsTable t m p f
       let first : first_of head ≡ at.first = ap first_of at.word ∙ first_of_head at.first None in
       let path : IsPath (links m) (first_of head) (f.chain row bucket) = subst (λ from. IsPath (links m) from (f.chain row bucket)) (sym first) at.path in
       let linked : (x : ℕ) → On x (f.chain row bucket) → IsLinked p.now x = λ x. on_chain_linked t m p f table row bucket x used in
-      before_load p.now since load (f.base row bucket) (links m) (first_of head) (f.chain row bucket) s anchor path linked early (table.chains.ranked row bucket used) on
+      elim (table.chains.ranked row bucket used) [
+        | inl joined ↦ absurd (joined_locked m p.now f row bucket table.heads at.lock joined)
+        | inr ranked ↦ before_load p.now since load (f.base row bucket) (links m) (first_of head) (f.chain row bucket) s anchor path linked early ranked on
+      ]
+
+  -- an entry of the bucket of an unlocked head is on its chain
+  on_here : (row bucket head : ℕ) (text : List ℕ) (h : Handle) (s born : ℕ) → IsUsed p.now f row bucket → m (place.Head row bucket) ≡ head → is_locked head ≡ false
+      → bucket_in row (hash_of p.now.seed text) ≡ bucket → p.now.slot s ≡ Linked text h born → On s (f.chain row bucket)
+  on_here row bucket head text h s born used word unlocked here linked =
+      let at = unlocked_path t m p f row bucket head table used word unlocked in
+      let unpinned : ¬ (IsPinned f.stage p.now.level row bucket) = λ pinned.
+      (let lock = table.heads.pinned row bucket pinned in let clash : None ≡ Some lock.0 = sym at.lock ∙ lock.2 in absurd (cc)) in
+      let to : ComesTo p.now f (hash_of p.now.seed text) row =
+      used_comes p.now f (hash_of p.now.seed text) row bucket table.chains.within (exact_one p.now f row bucket (hash_of p.now.seed text) table.chains.within used here unpinned) used here in
+      subst (λ (b : ℕ). On s (f.chain row b)) here (table.chains.linked_on s text h born row linked to)
 
 module _ (t : Table) (m : Memory) (seat : ℕ → Option View) (log : List Event) (inv : Inv t m seat log) where
   abbrev past : Past
@@ -163,13 +181,22 @@ module _ (t : Table) (m : Memory) (seat : ℕ → Option View) (log : List Event
       let after_place : begun.0 < o.place = begun.1.passed j o below is in
       (unlinked.0, unlinked.1, omega (arith, before, after_place))
 
-  -- each walk is in the row of the level, in the bucket of its text
+  -- each walk is in the bucket of its text in its row, which is that of the level but in a resize
   pub walks_routed : WalksAreRouted past.now seat
   walks_routed k v c node walk =
       let known = walk_of k v c node walk in
-      let seed : c.asked.seed ≡ past.now.seed = (asked_known k v c walk.view walk.call).seed in
-      let row : c.along.walk.row ≡ past.now.level = known.searched.routed in
-      (row, known.bucket ∙ ap (λ s. bucket_of s c.along.walk.row c.asked.text) seed ∙ ap (λ r. bucket_of past.now.seed r c.asked.text) row)
+      let hash : ℕ = hash_of c.asked.seed c.asked.text in
+      let seed : c.asked.seed ≡ past.now.seed = (asked_known k v c walk.view walk.call).seed in (
+        known.bucket ∙ ap (λ s. bucket_of s c.along.walk.row c.asked.text) seed,
+        λ free. free_row t m past inv.flow k hash c.along.walk.row known.searched.section inv.table known.searched.inside known.searched.routed free,
+        λ o inside new settled.
+            let same : known.searched.section ≡ o = one_open known.searched.section o (sym known.searched.inside ∙ inside) in
+            settled_row t m past inv.flow hash c.along.walk.row o inv.table
+            (subst (λ (x : OpenSection). IsRouted past.now inv.flow x.place hash c.along.walk.row) same known.searched.routed) settled new,
+      )
+    where
+      one_open : (a b : OpenSection) → Some a ≡ Some b → a ≡ b
+      one_open a b same = cc
 
   -- no walk misses the live entry of its text
   pub walkers_hold : WalkersMissNothing m past.now seat
@@ -191,28 +218,26 @@ module _ (t : Table) (m : Memory) (seat : ℕ → Option View) (log : List Event
   pub first_nodes_hold : FirstNodesAreOld m past.now seat
   first_nodes_hold k v c text e at is here =
       let known = walk_of k v c None at.walk in
-      let row : c.along.walk.row ≡ past.now.level = known.searched.routed in
-      let bucket : bucket_in c.along.walk.row (hash_of past.now.seed text) ≡ c.along.walk.bucket = ap (λ r. bucket_in r (hash_of past.now.seed text)) row ∙ here in
+      let row : ℕ = c.along.walk.row in
+      let hash : ℕ = hash_of c.asked.seed c.asked.text in
+      let comes : ComesTo past.now inv.flow hash row = comes_where_plain t m past inv.flow k hash row known.searched.section inv.table known.searched.inside known.searched.routed
+      (ap is_redirected (ap (λ (b : ℕ). m (place.Head row b)) (sym known.bucket) ∙ at.head) ∙ known.plain) in
+      let used : IsUsed past.now inv.flow row c.along.walk.bucket = subst (IsUsed past.now inv.flow row) (sym known.bucket) (comes_used past.now inv.flow hash row inv.table.chains.within comes) in
       let linked = live_linked t m past inv.flow inv.table text e is in
       let birth_of : born past.now.slot e.handle.slot ≡ linked.0 = ap birth linked.1 in
-      let on = inv.table.chains.linked_on e.handle.slot text e.handle linked.0 c.along.walk.row linked.1 row in
-      let on_here = subst (λ b. On e.handle.slot (inv.flow.chain c.along.walk.row b)) bucket on in
-      let before : born past.now.slot e.handle.slot < v.load = older k v c known row at.head (known.open_head refl) e.handle.slot on_here in
+      let on : On e.handle.slot (inv.flow.chain row c.along.walk.bucket) =
+      on_here t m past inv.flow inv.table row c.along.walk.bucket c.along.walk.head text e.handle e.handle.slot linked.0 used at.head (known.open_head refl) here linked.1 in
+      let early : inv.flow.base row c.along.walk.bucket ≤ v.load = subst (λ b. inv.flow.base row b ≤ v.load) (sym known.bucket) known.searched.based in
+      let before : born past.now.slot e.handle.slot < v.load =
+      older_than_load t m past inv.flow inv.table known.searched.section.place v.load row c.along.walk.bucket c.along.walk.head used at.head (known.open_head refl) known.searched.anchor early
+      e.handle.slot on in
       (linked.0, linked.1, omega (arith, before, birth_of))
-    where
-      older : (k : ℕ) (v : View) (c : Calling) → WalkKnown m past inv.flow k v.load v.passed c.asked c.along None → c.along.walk.row ≡ past.now.level
-          → m (place.Head c.along.walk.row c.along.walk.bucket) ≡ c.along.walk.head → is_locked c.along.walk.head ≡ false → (s : ℕ) → On s (inv.flow.chain c.along.walk.row c.along.walk.bucket)
-          → born past.now.slot s < v.load
-      older k v c known row head unlocked =
-          let used = routed_used t m past inv.flow inv.table known.searched.section.place (hash_of c.asked.seed c.asked.text) c.along.walk.row c.along.walk.bucket row known.bucket in
-          let early = subst (λ b. inv.flow.base c.along.walk.row b ≤ v.load) (sym known.bucket) known.searched.based in
-          older_than_load t m past inv.flow inv.table known.searched.section.place v.load c.along.walk.row c.along.walk.bucket c.along.walk.head used head unlocked known.searched.anchor early
 
   -- so a text that is to be inserted is absent
   pub inserted_absent : InsertedTextsAreAbsent m past.now seat
   inserted_absent k v c at = none_from (entry_of past.now.texts c.asked.text) (λ e is.
       let routed = walks_routed k v c None at.walk in
-      let old = first_nodes_hold k v c c.asked.text e at is (sym routed.1) in
+      let old = first_nodes_hold k v c c.asked.text e at is (sym routed.0) in
       let walk = walkers_hold k v c None at.walk in
       elim (walk.2 e is) [
         | inr ahead ↦ subst (On e.handle.slot) (none_ahead (links m) walk.0 walk.1) ahead

@@ -2,7 +2,7 @@
 use Rattle.std.proofs.Common.{◌≡◌, ℕ, false, List, [], length, Option, Some, None, refl, subst, inl, inr}
 use Rattle.chain_core.specs.Path.{IsPath}
 use Rattle.text_words.specs.Hash.{hash_of}
-use Rattle.marked_word.specs.Head.{is_locked, first_of}
+use Rattle.marked_word.specs.Head.{is_locked, is_redirected, first_of}
 use Rattle.intern_log.specs.Now.{OpenSection}
 use Rattle.call_machine.specs.declared.insert.InsertStage.{InsertStage}
 use Rattle.call_machine.specs.declared.insert.InsertStage.TheVariants as insert
@@ -17,7 +17,8 @@ use Rattle.call_machine.specs.declared.stage.CallStage.TheVariants as stage
 use Rattle.cht_core.specs.declared.seat.Seat.{Seat}
 use Rattle.cht_core.specs.declared.seat.Seat.TheVariants as doing
 use Rattle.cht_core.specs.declared.table.Table.{Table}
-use Rattle.cht_core.specs.Flow.{Flow, bucket_in}
+use Rattle.cht_core.specs.Flow.{Flow}
+use Rattle.cht_core.specs.Stage.{bucket_in}
 use Rattle.cht_core.specs.KnowsCall.{KnowsCall, KnowsNode, KnowsInsert, AtEnd, AtNode}
 use Rattle.cht_core.specs.Memory.{Memory, links}
 use Rattle.cht_core.specs.Parts.{call_of, node_in, node_at, walk_at, walk_at_node}
@@ -53,6 +54,7 @@ pub record WalkKnown (m : Memory) (p : Past) (f : Flow) (k load : ℕ) (passed :
   pub bucket : w.walk.bucket ≡ bucket_in w.walk.row (hash_of q.seed q.text)
   pub counted : (s : ℕ) → node ≡ Some s → w.walk.passed ≡ length passed
   pub open_head : node ≡ None → is_locked w.walk.head ≡ false
+  pub plain : is_redirected w.walk.head ≡ false
 
 module _ (m : Memory) (p : Past) (f : Flow) (k load : ℕ) (passed : List ℕ) (q : Asked) (w : Along) where
   -- an inserter is at the end of its walk
@@ -73,6 +75,7 @@ module _ (m : Memory) (p : Past) (f : Flow) (k load : ℕ) (passed : List ℕ) (
     bucket = at.bucket;
     counted = λ s is. absurd (cc);
     open_head = λ _. at.open_head;
+    plain = at.plain;
   }
 
   walk_here : (s : ℕ) → AtNode m p.now f k load passed q w s → WalkKnown m p f k load passed q w (Some s)
@@ -83,6 +86,7 @@ module _ (m : Memory) (p : Past) (f : Flow) (k load : ℕ) (passed : List ℕ) (
     bucket = at.bucket;
     counted = λ _ _. at.counted;
     open_head = λ is. absurd (cc);
+    plain = at.plain;
   }
 
   same_walk : (a b : Option ℕ) → Some a ≡ Some b → WalkKnown m p f k load passed q w a → WalkKnown m p f k load passed q w b

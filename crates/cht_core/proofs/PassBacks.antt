@@ -4,6 +4,7 @@ use Rattle.chain_core.specs.Nodes.{On}
 use Rattle.chain_core.specs.Path.{IsPath}
 use Rattle.chain_core.proofs.Ways.{path_begins}
 use Rattle.intern_log.specs.Now.{Now}
+use Rattle.atomic_step.specs.SoundStep.{IsSoundStep}
 use Rattle.call_machine.specs.declared.lock.LockStage.{LockStage}
 use Rattle.call_machine.specs.declared.lock.LockStage.TheVariants as lock
 use Rattle.call_machine.specs.declared.pass.Cleaning.{Cleaning}
@@ -21,10 +22,10 @@ use Rattle.cht_core.specs.TableState.{IsTable}
 use Rattle.cht_core.proofs.Locking.{locked_path}
 
 -- a head to which callers come may be locked
-pub lock_backs : (t : Table) (m : Memory) (p : Past) (f : Flow) (i : ℕ) (text : List ℕ) (row bucket : ℕ) (stage : LockStage) → IsUsed p.now f row bucket →
-    Backs t m p f i text (lock_row row bucket stage).step
-lock_backs t m p f i text row bucket lock.LoadHead used = tt
-lock_backs t m p f i text row bucket (lock.LockHead head) used = used
+pub lock_backs : (t : Table) (m : Memory) (p : Past) (f : Flow) (i : ℕ) (text : List ℕ) (row bucket : ℕ) (stage : LockStage) → IsSoundStep t.shape i (lock_row row bucket stage).step →
+    IsUsed p.now f row bucket → Backs t m p f i text (lock_row row bucket stage).step
+lock_backs t m p f i text row bucket lock.LoadHead sound used = tt
+lock_backs t m p f i text row bucket (lock.LockHead head) sound used = (sound.1, λ met. used)
 
 -- the edge behind the last node that stays leads to the present node
 leads_behind : (m : Memory) (n : Now) (f : Flow) (i : ℕ) (c : Cleaning) (last : Option ℕ) (s : ℕ) → Locked m n f i c.row c.bucket c.first → LeadsTo m f c last s →

@@ -164,7 +164,7 @@ module _ (t : Table) (m m' : Memory) (p : Past) (f : Flow) (i : ℕ) (c : Cleani
   behind = record c { first = first_behind c.last c.first next; unlinked = min (c.unlinked + 1) 18446744073709551615 }
 
   behind_locked : Locked m' pass_past.now pass_flow i c.row c.bucket (first_behind c.last c.first next)
-  behind_locked = record { used = at.0.used; lock = at.0.lock; head = head_behind t m m' p f i c s next table at link c.last made }
+  behind_locked = record { used = at.0.used; unpinned = at.0.unpinned; lock = at.0.lock; head = head_behind t m m' p f i c s next table at link c.last made }
 
   behind_came : KnowsCame m' pass_past.now pass_flow i behind (passes_on next)
   behind_came = pass_goes_on m' pass_past.now pass_flow i behind next behind_locked
@@ -215,7 +215,7 @@ module _ (t : Table) (m m' : Memory) (p : Past) (f : Flow) (i : ℕ) (c : Cleani
 -- after a step of a pass its next stage is known, or the locked bucket where it is over, and the slots that wait
 pub pass_next : (t : Table) (m m' : Memory) (p : Past) (f : Flow) (i : ℕ) (text : List ℕ) (c : Cleaning) (stage : PassStage) → IsTable t m p f → KnowsPass m p.now f i c stage →
     KnowsWaiting m p i c.waiting.items → IsMade (pass_row c stage).step m m' →
-    PassKnows m' (told p i (event_of text (pass_row c stage).step (found (pass_row c stage).step m))) (flow_after f i text (pass_row c stage).step (found (pass_row c stage).step m)) i
+    PassKnows m' (told p i (event_of text (pass_row c stage).step (found (pass_row c stage).step m))) (flow_after p.now f i text (pass_row c stage).step (found (pass_row c stage).step m)) i
     ((pass_row c stage).next (found (pass_row c stage).step m))
 pass_next t m m' p f i text c (pass.LoadCount s) table knows waiting made =
     let same : m' ≡ m = after_load (step.LoadCount s) m m' refl made in

@@ -94,7 +94,7 @@ clean_low shape w (clean.Free freeing s) word other = freed_low shape w (record 
 clean_low shape w clean.GiveResizeLock word other = (refl, λ is. let clash : Some (answer.Done (worked w)) ≡ None = is in absurd (cc))
 
 -- a seat that polls its work
-abbrev polls_at : Caller → Work × Option Answer → Seat
+abbrev pub polls_at : Caller → Work × Option Answer → Seat
 polls_at caller at = doing.Running (machine.Poll (polling caller at))
 
 -- a work is left after a poll or not

@@ -1,5 +1,5 @@
 -- The stages of the poll of a work, and a new poll.
-use Rattle.std.proofs.Common.{◌≡◌, ℕ, refl, sym, subst, List, Option, Some, None, IfSome}
+use Rattle.std.proofs.Common.{◌≡◌, ℕ, refl, sym, subst, inl, inr, List, Option, Some, None, IfSome}
 use Rattle.table_shape.specs.declared.shape.Shape.{Shape}
 use Rattle.atomic_step.specs.declared.answer.Answer.{Answer}
 use Rattle.atomic_step.specs.Turn.{Row}
@@ -26,6 +26,9 @@ use Rattle.cht_core.specs.TableState.{IsTable}
 use Rattle.cht_core.proofs.CleanStages.{clean_backs, clean_next, left_knows}
 use Rattle.cht_core.proofs.GraceStages.{CanRaise}
 use Rattle.cht_core.proofs.OwesKept.{UnlinkedAtMost}
+use Rattle.cht_core.proofs.ResizeBacks.{resize_backs}
+use Rattle.cht_core.proofs.ResizeNext.{resize_next}
+use Rattle.cht_core.proofs.ResizeOutside.{resize_outside}
 use Rattle.cht_core.proofs.Turns.{IfMakes, past_by, flow_of}
 use Rattle.cht_core.proofs.WorkBeside.{clean_outside}
 
@@ -33,18 +36,22 @@ use Rattle.cht_core.proofs.WorkBeside.{clean_outside}
 pub work_backs : (t : Table) (m : Memory) (p : Past) (f : Flow) (i : ℕ) (text : List ℕ) (w : Work) → IsSoundWork t.shape w → UnlinkedAtMost p i (waiting_of_work (Some w)) → KnowsWork m p f i w
     → CanRaise m (work_row t.shape w).step → Backs t m p f i text (work_row t.shape w).step
 work_backs t m p f i text (work.Clean c) sound all known may = clean_backs t m p f i text c.along c.stage sound known.0 all known.1 may
-work_backs t m p f i text (work.Resize r) sound all known may = absurd known
+work_backs t m p f i text (work.Resize r) sound all known may =
+    resize_backs t m p f i text r.direction r.along r.stage sound (λ s at is. elim (all s at is) [ inl never ↦ absurd never | inr many ↦ many ]) known may
 
 -- what the work that is left knows after a step, and that its seat is outside still
 pub work_next : (t : Table) (m m' : Memory) (p : Past) (f : Flow) (i : ℕ) (text : List ℕ) (w : Work) → IsTable t m p f → IsSoundWork t.shape w → IsMade (work_row t.shape w).step m m'
     → Goes t m p f i text (work_row t.shape w).step m' → IsOutside p.now i → KnowsWork m p f i w
     → let r = work_row t.shape w in let came = r.next (found r.step m) in
-    IsOutside (past_by p i text r.step m).now i × IfSome (work_left came.0 came.1) (KnowsWork m' (past_by p i text r.step m) (flow_of f i text r.step m) i)
+    IsOutside (past_by p i text r.step m).now i × IfSome (work_left came.0 came.1) (KnowsWork m' (past_by p i text r.step m) (flow_of p f i text r.step m) i)
 work_next t m m' p f i text (work.Clean c) table sound made goes outside known = (
   clean_outside p i text t.shape c.along c.stage (found (work_row t.shape (work.Clean c)).step m) outside,
   clean_next t m m' p f i text c.along c.stage table sound known.0 made goes known.1,
 )
-work_next t m m' p f i text (work.Resize r) table sound made goes outside known = absurd known
+work_next t m m' p f i text (work.Resize r) table sound made goes outside known = (
+  resize_outside p i text t.shape r.direction r.along r.stage (found (work_row t.shape (work.Resize r)).step m) outside,
+  resize_next t m m' p f i text r table sound made known,
+)
 
 -- the same of a poll
 pub poll_backs : (t : Table) (m : Memory) (p : Past) (f : Flow) (i : ℕ) (text : List ℕ) (q : Polling) → q.caller.shape ≡ t.shape → IsSoundWork q.caller.shape q.work
@@ -63,7 +70,7 @@ poll_backs t m p f i text q shape sound owes known = by_answer q.answer refl
 -- what is known after a step of a poll
 abbrev pub PollsOn : Table → Memory → Memory → Past → Flow → ℕ → List ℕ → Shape → Work × Option Answer → Type 0
 PollsOn t m m' p f i text shape at = IfMakes (λ (does : Row (Work × Option Answer)). IsMade does.step m m' → Goes t m p f i text does.step m' → let came = does.next (found does.step m) in
-    IsOutside (past_by p i text does.step m).now i × IfSome (work_left came.0 came.1) (KnowsWork m' (past_by p i text does.step m) (flow_of f i text does.step m) i)) (turn_by (work_row shape) at)
+    IsOutside (past_by p i text does.step m).now i × IfSome (work_left came.0 came.1) (KnowsWork m' (past_by p i text does.step m) (flow_of p f i text does.step m) i)) (turn_by (work_row shape) at)
 
 -- a poll leads to what is known after its step
 pub poll_next : (t : Table) (m m' : Memory) (p : Past) (f : Flow) (i : ℕ) (text : List ℕ) (q : Polling) → IsTable t m p f → q.caller.shape ≡ t.shape → IsSoundWork q.caller.shape q.work
@@ -91,4 +98,4 @@ resumed_cleaning m p f i w clean.GiveResizeLock known = known
 pub resumed_knows : (m : Memory) (p : Past) (f : Flow) (i : ℕ) (w : Work) → KnowsWork m p f i w → IfSome (work_left (resumes w).0 (resumes w).1) (KnowsWork m p f i)
 resumed_knows m p f i (work.Clean c) known =
     left_knows m p f i (resumes (work.Clean c)).0 (resumes (work.Clean c)).1 (known.0, resumed_cleaning m p f i c.along c.stage known.1)
-resumed_knows m p f i (work.Resize r) known = absurd known
+resumed_knows m p f i (work.Resize r) known = left_knows m p f i (resumes (work.Resize r)).0 (resumes (work.Resize r)).1 known

@@ -39,6 +39,7 @@ use Rattle.cht_core.specs.Memory.{Memory}
 use Rattle.cht_core.specs.Past.{Past}
 use Rattle.cht_core.proofs.BoundSteps.{free_plain}
 use Rattle.cht_core.proofs.PollBounds.{raises_below}
+use Rattle.cht_core.proofs.ResizeBounds.{resize_raises_below}
 use Rattle.cht_core.proofs.Turns.{IfMakes, mapped_plan}
 
 -- no try call raises the counter
@@ -89,4 +90,4 @@ pub poll_weight : (m : Memory) (p : Past) (f : Flow) (i : ℕ) (caller : Caller)
     → IfMakes (λ does. does.step ≡ step.RaiseCounter → HasWeight (doing.Running (machine.Poll (polling caller (w, a))))) (poll_turn caller (w, a))
 poll_weight m p f i caller w (Some a) known low = tt
 poll_weight m p f i caller (work.Clean c) None known low = λ is. work_weight caller (work.Clean c) (raises_below caller.shape c.along c.stage (low refl) is)
-poll_weight m p f i caller (work.Resize r) None known low = absurd known
+poll_weight m p f i caller (work.Resize r) None known low = λ is. work_weight caller (work.Resize r) (resize_raises_below caller.shape r.direction r.along r.stage (low refl) is)

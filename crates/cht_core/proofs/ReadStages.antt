@@ -110,7 +110,7 @@ module _ (t : Table) (m m' : Memory) (p : Past) (f : Flow) (i load : ℕ) (passe
     (inside : i < t.shape.seats) (kept : w.kept ≡ None) where
   abbrev KnowsNext : ReadStage → Memory → Type 0
   KnowsNext s after = let does = read_row q w s in let word = found does.step m in let next = does.next word in
-      KnowsStage after (told p i (event_of q.text does.step word)) (flow_after f i q.text does.step word) i load passed q next.0 next.1
+      KnowsStage after (told p i (event_of q.text does.step word)) (flow_after p.now f i q.text does.step word) i load passed q next.0 next.1
 
   -- what is known after a load
   loaded_next : (kind : Kind) → q.kind ≡ kind → (s : ReadStage) → ((counter : ℕ) → s ≢ Enter (Opens counter)) → KnowsRead m p f i q kind s → KnowsNext s m
@@ -134,13 +134,13 @@ module _ (t : Table) (m m' : Memory) (p : Past) (f : Flow) (i load : ℕ) (passe
   opened_next : (kind : Kind) → q.kind ≡ kind → (counter : ℕ) → KnowsRead m p f i q kind (Enter (Opens counter)) → KnowsNext (Enter (Opens counter)) m'
   opened_next Counted is counter known = absurd known
   opened_next Weak is counter known =
-      subst (λ k. KnowsRead m' (told p i (Some (what.Open counter))) (flow_after f i q.text (step.OpenSection q.number counter) (m (place.Section q.number))) i q k Count) (sym is)
+      subst (λ k. KnowsRead m' (told p i (Some (what.Open counter))) (flow_after p.now f i q.text (step.OpenSection q.number counter) (m (place.Section q.number))) i q k Count) (sym is)
       (opened_inside p i counter, ap (λ b. b || false) known.1)
 
   -- what is known after a step
   pub read_next : (s : ReadStage) → IsMade (read_row q w s).step m m' → KnowsRead m p f i q q.kind s
       → let does = read_row q w s in let word = found does.step m in let next = does.next word in
-      KnowsStage m' (told p i (event_of q.text does.step word)) (flow_after f i q.text does.step word) i load passed q next.0 next.1
+      KnowsStage m' (told p i (event_of q.text does.step word)) (flow_after p.now f i q.text does.step word) i load passed q next.0 next.1
   read_next (Enter LoadCounter) made known =
       subst (KnowsNext (Enter LoadCounter)) (sym (after_load step.LoadCounter m m' refl made)) (loaded_next q.kind refl (Enter LoadCounter) (λ counter is. cc) known)
   read_next (Enter (Opens counter)) made known = opened_next q.kind refl counter known

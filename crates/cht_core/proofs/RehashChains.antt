@@ -4,17 +4,19 @@ use Rattle.chain_core.specs.Nodes.{On, Once}
 use Rattle.chain_core.specs.Path.{IsPath}
 use Rattle.chain_core.proofs.Ways.{path_once}
 use Rattle.text_words.specs.Hash.{hash_of}
+use Rattle.marked_word.specs.Number.{new_level_word}
 use Rattle.table_shape.specs.declared.place.Place.TheVariants as place
 use Rattle.intern_log.specs.Lawful.{IsQuiet}
 use Rattle.intern_log.specs.Now.{Phase, Vacant, Claimed, Linked, Unlinked}
 use Rattle.cht_core.specs.declared.table.Table.{Table}
 use Rattle.cht_core.specs.Chains.{Chains, AreEarlier, AreRanked, birth, born}
-use Rattle.cht_core.specs.Flow.{Flow, bucket_in}
+use Rattle.cht_core.specs.Flow.{Flow, IsUsed}
 use Rattle.cht_core.specs.Heads.{Heads, used_head}
 use Rattle.cht_core.specs.Memory.{Memory, links}
 use Rattle.cht_core.specs.Past.{Past, by, past_after}
 use Rattle.cht_core.specs.Rehash.{IsRehashed, IsMadeAnew, by_next_seed, seeds}
 use Rattle.cht_core.specs.Shows.{IsOfBucket}
+use Rattle.cht_core.specs.Stage.{Stage, Quiet, Whole, bucket_in, named_level}
 use Rattle.cht_core.specs.TableState.{IsTable}
 use Rattle.cht_core.proofs.RehashWords.{bucket_below, below_or_not}
 
@@ -44,9 +46,9 @@ module _ (t : Table) (m m' : Memory) (p : Past) (f : Flow) (table : IsTable t m 
   made_at : (bucket : ℕ) → bucket < 2 ^ p.now.level → (r : IsMadeAnew m' (by_next_seed p.now) bucket) × (r.nodes ≡ chain_of bucket)
   made_at bucket inside = made_by bucket inside (below_or_not bucket (2 ^ p.now.level))
 
-  -- the flow of the table that is made anew: callers come to each chain after the event
+  -- the flow of the table that is made anew: callers come to each chain after the event, and no resize goes on
   abbrev pub flow_anew : Flow
-  flow_anew = record { chain = λ row bucket. chain_of bucket; base = λ row bucket. p.now.place + 1; holds = f.holds }
+  flow_anew = record { chain = λ row bucket. chain_of bucket; base = λ row bucket. p.now.place + 1; holds = f.holds; stage = Quiet; parted = λ s. Whole; before = f.before }
 
   abbrev pub after : Past
   after = past_after p (by 0 (seeds p.now))
@@ -56,18 +58,25 @@ module _ (t : Table) (m m' : Memory) (p : Past) (f : Flow) (table : IsTable t m 
       let r = made_at bucket below in
       (r.0.first, r.0.head, subst (IsPath (links m') r.0.first) r.1 r.0.path)
 
+  -- callers come to the heads of the level's row
+  used_here : (row bucket : ℕ) → IsUsed after.now flow_anew row bucket → (row ≡ p.now.level) × (bucket < 2 ^ p.now.level)
+  used_here row bucket used = elim used [ inl here ↦ (here.0, subst (λ r. bucket < 2 ^ r) here.0 here.2) | inr next ↦ absurd next.1 ]
+
   -- its heads lead to its chains, and no bucket is locked
   pub heads_anew : IsQuiet p.now → Heads m' after.now flow_anew
   heads_anew quiet = record {
     level = made.stay place.Level (λ new. new) ∙ table.heads.level;
-    new_level = made.stay place.NewLevel (λ new. new) ∙ table.heads.new_level;
+    new_level = made.stay place.NewLevel (λ new. new) ∙ table.heads.new_level ∙ ap (λ (st : Stage). new_level_word (named_level st p.now.level)) (table.idle quiet.resizing);
     owner = made.stay place.ResizeLock (λ new. new) ∙ table.heads.owner;
     paths = λ row bucket used.
-        let below : bucket < 2 ^ p.now.level = subst (λ r. bucket < 2 ^ r) used.0 used.1 in
-        let path = path_anew bucket below in
+        let here : (row ≡ p.now.level) × (bucket < 2 ^ p.now.level) = used_here row bucket used in
+        let path = path_anew bucket here.1 in
         let unlocked : used_head path.0 None ≡ used_head path.0 (p.now.lock row bucket) = ap (used_head path.0) (sym (quiet.locks row bucket)) in
-        (path.0, ap (λ r. m' (place.Head r bucket)) used.0 ∙ path.1 ∙ unlocked, path.2);
+        (path.0, ap (λ r. m' (place.Head r bucket)) here.0 ∙ path.1 ∙ unlocked, path.2);
+    behind = λ row bucket left. absurd left.1;
     held = λ row bucket k is. let none : p.now.lock row bucket ≡ None = quiet.locks row bucket in absurd (cc);
+    gone = λ bucket gone. absurd gone;
+    pinned = λ row bucket pinned. absurd pinned;
   }
 
   on_bucket : (bucket s : ℕ) → bucket < 2 ^ p.now.level → On s (chain_of bucket) → IsOfBucket (by_next_seed p.now) bucket s
@@ -93,14 +102,17 @@ module _ (t : Table) (m m' : Memory) (p : Past) (f : Flow) (table : IsTable t m 
   pub chains_anew : Chains after.now flow_anew
   chains_anew = record {
     on_linked = λ row bucket s used on.
-        let below : bucket < 2 ^ p.now.level = subst (λ r. bucket < 2 ^ r) used.0 used.1 in
-        let of : IsOfBucket (by_next_seed p.now) bucket s = on_bucket bucket s below on in
-        (of.0, of.1, of.2, of.3, ap (λ r. bucket_in r (hash_of (p.now.seed + 1) of.0)) used.0 ∙ of.4);
+        let here : (row ≡ p.now.level) × (bucket < 2 ^ p.now.level) = used_here row bucket used in
+        let of : IsOfBucket (by_next_seed p.now) bucket s = on_bucket bucket s here.1 on in
+        (of.0, of.1, of.2, of.3, inl (ap (λ r. bucket_in r (hash_of (p.now.seed + 1) of.0)) here.0 ∙ of.4));
     linked_on = λ s text h at row is comes.
         let on : On s (chain_of (bucket_in p.now.level (hash_of (p.now.seed + 1) text))) =
         of_chain (bucket_in p.now.level (hash_of (p.now.seed + 1) text)) s (bucket_below (p.now.seed + 1) p.now.level text) (text, h, at, is, refl) in
-        subst (λ r. On s (chain_of (bucket_in r (hash_of (p.now.seed + 1) text)))) (sym comes) on;
-    once = λ row bucket used. once_anew bucket (subst (λ r. bucket < 2 ^ r) used.0 used.1);
-    ranked = λ row bucket used. ranked_below (p.now.place + 1) (born p.now.slot) born_before (chain_of bucket);
+        elim comes [ inl here ↦ subst (λ r. On s (chain_of (bucket_in r (hash_of (p.now.seed + 1) text)))) (sym here.0) on | inr next ↦ absurd next.1 ];
+    once = λ row bucket used. let here : (row ≡ p.now.level) × (bucket < 2 ^ p.now.level) = used_here row bucket used in once_anew bucket here.1;
+    ranked = λ row bucket used. inr (ranked_below (p.now.place + 1) (born p.now.slot) born_before (chain_of bucket));
     bases = λ row bucket. omega arith;
+    sides = λ row bucket s text h at used on is. inl refl;
+    loose = λ s. inl refl;
+    within = tt;
   }

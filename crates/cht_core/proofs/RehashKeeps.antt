@@ -1,12 +1,13 @@
 -- A table that is made anew meets the invariant again.
-use Rattle.std.proofs.Common.{◌≡◌, ℕ, ◌+◌, true, List, [], ◌∷◌, ◌++◌, Option, Some, None, IfSome, inl, inr, sym, subst, ◌∙◌, arith}
+use Rattle.std.proofs.Common.{◌≡◌, ℕ, ◌+◌, true, List, [], ◌∷◌, ◌++◌, Option, Some, None, IfSome, inl, inr, refl, sym, subst, ◌∙◌, arith}
 use Rattle.std.specs.Option.{option_map}
 use Rattle.std.proofs.lemmas.List.{append-nil}
 use Rattle.std.proofs.lemmas.List.Elements.{All-push}
 use Rattle.table_shape.specs.declared.place.Place.TheVariants as place
 use Rattle.intern_log.specs.declared.event.Event.{Event}
 use Rattle.intern_log.specs.declared.event.What.TheVariants as what
-use Rattle.intern_log.specs.Now.{Linked, Unlinked, now_of}
+use Rattle.intern_log.specs.Lawful.{IsQuiet}
+use Rattle.intern_log.specs.Now.{Now, Linked, Unlinked, now_of}
 use Rattle.intern_log.specs.Own.{is_visible, is_among, mine, gains, losses}
 use Rattle.intern_log.proofs.OneMore.{mine-one_more}
 use Rattle.call_machine.specs.declared.machine.Own.{Own}
@@ -15,6 +16,7 @@ use Rattle.cht_core.specs.declared.seat.Seat.TheVariants as doing
 use Rattle.cht_core.specs.declared.table.Table.{Table}
 use Rattle.cht_core.specs.Bounds.{Bounds}
 use Rattle.cht_core.specs.Flow.{Flow}
+use Rattle.cht_core.specs.Graces.{WorksWithFew, GrowsWithFew}
 use Rattle.cht_core.specs.Invariant.{Inv, Numbers, Holds}
 use Rattle.cht_core.specs.KnowsWork.{KnowsGrace, KnowsWork}
 use Rattle.cht_core.specs.Memory.{Memory}
@@ -52,6 +54,9 @@ module _ (t : Table) (m m' : Memory) (seat : ℕ → Option View) (log : List Ev
   abbrev flow : Flow
   flow = flow_anew t m m' past_here inv.flow inv.table made
 
+  quiet : IsQuiet past_here.now
+  quiet = is_quiet t m seat log inv may
+
   table_anew : IsTable t m' after flow
   table_anew = record {
     shape = inv.table.shape;
@@ -63,8 +68,13 @@ module _ (t : Table) (m m' : Memory) (seat : ℕ → Option View) (log : List Ev
       words = λ k. made.stay (place.Section k) (λ new. new) ∙ inv.table.sections.words k;
       seats = inv.table.sections.seats;
     };
-    heads = heads_anew t m m' past_here inv.flow inv.table made (is_quiet t m seat log inv may);
+    heads = heads_anew t m m' past_here inv.flow inv.table made quiet;
     chains = chains_anew t m m' past_here inv.flow inv.table made;
+    clear = λ k o inside. let none : past_here.now.section k ≡ None = quiet.sections k in absurd (cc);
+    idle = λ none. refl;
+    whole = λ settled. tt;
+    row = λ r is. let none : past_here.now.resizing ≡ None = quiet.resizing in absurd (cc);
+    named = λ level is. absurd (cc);
     ledger = inv.table.ledger;
   }
 
@@ -117,6 +127,12 @@ module _ (t : Table) (m m' : Memory) (seat : ℕ → Option View) (log : List Ev
     none = inv.holds.none;
   }
 
+  -- nobody has a work
+  graces_anew : (n : Now) (k : ℕ) (v : View) → seat k ≡ Some v → GrowsWithFew n log_after flow v.seat
+  graces_anew n k v is =
+      let free : (own : Own) × (v.seat ≡ doing.Idle own) × (own.work ≡ None) × (own.grace ≡ None) = free_seat v.seat (may.seats k v is) in
+      subst (GrowsWithFew n log_after flow) (sym free.1) (none_known (WorksWithFew n log_after flow) free.0.work free.2, tt)
+
   inv_anew : Inv t m' seat log_after
   inv_anew =
       let told_is : past_of t.shape.min_level log_after ≡ after = past_of-one_more t.shape.min_level log (by 0 (seeds past_here.now)) in
@@ -131,6 +147,7 @@ module _ (t : Table) (m m' : Memory) (seat : ℕ → Option View) (log : List Ev
         lawful = lawful_told t log 0 (Some (seeds past_here.now)) inv.lawful (may_tell t m seat log inv may);
         edges = unlinked_lead_told t m m' log 0 (Some (seeds past_here.now)) inv.table.tidy inv.edges
             (λ s k at is. made.stay (place.Link s) (λ linked. let both : Unlinked k at ≡ Linked linked.0 linked.1 linked.2 = sym is ∙ linked.3 in cc)) (λ s next is. absurd (cc));
+        graces = λ k v is. graces_anew (past_of t.shape.min_level log_after).now k v is;
       }
 
 -- the law

@@ -1,6 +1,5 @@
 -- A call that is no split never answers with the number of a new seat.
 use Rattle.std.proofs.Common.{◌≡◌, ◌≢◌, ℕ, List, Option, Some, None, refl, sym, subst, ◌∙◌}
-use Rattle.std.specs.Prelude.{IfSome}
 use Rattle.atomic_step.specs.declared.answer.Answer.TheVariants as answer
 use Rattle.atomic_step.specs.declared.plan.Plan.TheVariants as plan
 use Rattle.atomic_step.proofs.Choices.{either_way}
@@ -15,13 +14,12 @@ use Rattle.call_machine.specs.declared.stage.Calling.{Calling}
 use Rattle.call_machine.specs.declared.stage.Goal.{Goal}
 use Rattle.call_machine.specs.declared.stage.Goal.TheVariants as goal
 use Rattle.call_machine.specs.declared.work.Work.{Work}
-use Rattle.call_machine.specs.declared.work.Work.TheVariants as work
 use Rattle.call_machine.specs.BeginCall as calls
 use Rattle.call_machine.specs.Machine.{starts, begun_grace_poll, begun_work_poll, plan_of, got_of}
 use Rattle.call_machine.specs.Sought.{is_too_long}
 use Rattle.call_machine.proofs.Machines.{plan_part, got_part, plan_is, got_is}
 use Rattle.cht_core.proofs.RunCallAnswers.{IsNoSplit, StageNoSplit, call_on, call_ends}
-use Rattle.cht_core.proofs.RunWorkAnswers.{BeginNoSplit, begin_on, begin_ends, IsClean, PolledNoSplit, resumed_no, poll_on, poll_ends, SweepNoSplit, sweep_on, sweep_ends}
+use Rattle.cht_core.proofs.RunWorkAnswers.{BeginNoSplit, begin_on, begin_ends, PolledNoSplit, resumes_no, poll_on, poll_ends, SweepNoSplit, sweep_on, sweep_ends}
 
 -- the machine is on its way to another answer
 abbrev pub NeverSplits : Machine → Type 0
@@ -60,25 +58,24 @@ grace_never : (caller : Caller) (g : Option Grace) → NeverSplits (begun_grace_
 grace_never caller None = tt
 grace_never caller (Some g) = tt
 
-work_never : (caller : Caller) (w : Option Work) → IfSome w IsClean → NeverSplits (begun_work_poll caller w)
-work_never caller None is = tt
-work_never caller (Some (work.Clean c)) is = (tt, resumed_no c.along c.stage)
-work_never caller (Some (work.Resize r)) is = absurd is
+work_never : (caller : Caller) (w : Option Work) → NeverSplits (begun_work_poll caller w)
+work_never caller None = tt
+work_never caller (Some w) = resumes_no w
 
 -- each call that is no split begins so
-pub never_begins : (caller : Caller) (own : Own) (asked : Call) → asked ≢ call.Split → IfSome own.work IsClean → NeverSplits (starts caller own asked)
-never_begins caller own call.Split differ is = absurd (differ refl)
-never_begins caller own (call.Intern text) differ is = walk_never caller goal.Intern text.now
-never_begins caller own (call.Lookup text) differ is = walk_never caller goal.Lookup text.now
-never_begins caller own (call.InternWait text) differ is = walk_never caller goal.InternWait text.now
-never_begins caller own call.PollGrace differ is = grace_never caller own.grace
-never_begins caller own call.PollWork differ is = work_never caller own.work is
-never_begins caller own (call.TextOf h) differ is = tt
-never_begins caller own (call.Drop h) differ is = tt
-never_begins caller own (call.Permanent h) differ is = tt
-never_begins caller own (call.Kill h) differ is = tt
-never_begins caller own call.BeginClean differ is = tt
-never_begins caller own call.BeginGrow differ is = tt
-never_begins caller own call.BeginShrink differ is = tt
-never_begins caller own call.BeginGrace differ is = tt
-never_begins caller own (call.Sweep text) differ is = tt
+pub never_begins : (caller : Caller) (own : Own) (asked : Call) → asked ≢ call.Split → NeverSplits (starts caller own asked)
+never_begins caller own call.Split differ = absurd (differ refl)
+never_begins caller own (call.Intern text) differ = walk_never caller goal.Intern text.now
+never_begins caller own (call.Lookup text) differ = walk_never caller goal.Lookup text.now
+never_begins caller own (call.InternWait text) differ = walk_never caller goal.InternWait text.now
+never_begins caller own call.PollGrace differ = grace_never caller own.grace
+never_begins caller own call.PollWork differ = work_never caller own.work
+never_begins caller own (call.TextOf h) differ = tt
+never_begins caller own (call.Drop h) differ = tt
+never_begins caller own (call.Permanent h) differ = tt
+never_begins caller own (call.Kill h) differ = tt
+never_begins caller own call.BeginClean differ = tt
+never_begins caller own call.BeginGrow differ = tt
+never_begins caller own call.BeginShrink differ = tt
+never_begins caller own call.BeginGrace differ = tt
+never_begins caller own (call.Sweep text) differ = tt

@@ -106,7 +106,7 @@ module _ (c : Core) (core : IsCore c) (k : ℕ) (own : Own) (asked : Call) (at :
       Following k (way_of asked) c.log (with_seat c k (seat_after (started c.table.kind c.table.shape c.seed own asked))) (started c.table.kind c.table.shape c.seed own asked)
   begun_state caused s goes =
       let machine : Machine = started c.table.kind c.table.shape c.seed own asked in
-      let after = started_after c core k own at asked bytes can.may can.level can.log in
+      let after = started_after c core k own at asked bytes can.may can.log in
       record {
         core = after.core;
         at = after.own.1 ∙ ap (λ (p : Plan). Some (at_rest machine p)) goes;

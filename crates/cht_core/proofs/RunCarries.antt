@@ -100,6 +100,35 @@ steps_more k (Step j) moves = go (j == k)
 
 -- A RUNNING CALL
 
+-- a move of others leaves it as it is
+module _ (k : ℕ) (way : Way) (seen : List Event) (c d : Core) (m : Machine) (is : Following k way seen c m) where
+  same_state : d ≡ c → Following k way seen d m
+  same_state same = subst (λ (e : Core). Following k way seen e m) (sym same) is
+
+  by_start : (j : ℕ) (asked : Call) (o : Option Seat) (said : Started) → j ≢ k → HasBytes asked → seat_in c.seats j ≡ o → StartsAs c j asked o said d → Following k way seen d m
+  by_start j asked None said differ bytes at makes = same_state makes.1
+  by_start j asked (Some (doing.Running other)) said differ bytes at makes = same_state makes.1
+  by_start j asked (Some (doing.Idle own)) said differ bytes at (inl starts) =
+      subst (λ (e : Core). Following k way seen e m) (sym starts.state) (others_start k way seen c m is j differ own asked at bytes starts.can)
+  by_start j asked (Some (doing.Idle own)) said differ bytes at (inr refused) = same_state refused.1
+
+  by_other : (j : ℕ) (o : Option Seat) (said : Stepped) → j ≢ k → seat_in c.seats j ≡ o → StepsAs c j o said d → Following k way seen d m
+  by_other j None said differ at makes = same_state makes.1
+  by_other j (Some (doing.Idle own)) said differ at makes = same_state makes.1
+  by_other j (Some (doing.Running other)) said differ at makes =
+      subst (λ (e : Core). Following k way seen e m) (sym makes.state) (others_step k way seen c m is j differ other makes.step at makes.plan)
+
+  -- no table is made anew while a call runs
+  by_rehash : (said : Rehashing) → RehashesAs c said d → Following k way seen d m
+  by_rehash rehashing.Done makes = absurd (makes.can.seats k (doing.Running m) is.at)
+  by_rehash rehashing.Refused makes = same_state makes.0
+  by_rehash rehashing.OutOfMemory makes = same_state makes.0
+
+  pub by_others : (move : Move) → IsNoStart k move → move ≢ Step k → Makes c move d → Following k way seen d m
+  by_others (Start j asked) none other makes = by_start j asked (seat_in c.seats j) makes.1.0 none makes.0 refl makes.1.1
+  by_others (Step j) none other makes = by_other j (seat_in c.seats j) makes.0 (λ same. other (ap Step same)) refl makes.1
+  by_others Rehash none other makes = by_rehash makes.0 makes.1
+
 module _ (k : ℕ) (way : Way) (seen : List Event) (Is : ℕ → Machine → Type 0)
     (goes : (n : ℕ) (c : Core) (m : Machine) (s : AtomicStep) → Following k way seen c m → plan_of m ≡ plan.Step s → Is n m → Is (n + 1) (got_of m (word_in c s))) where
   -- a call that is followed, with what holds of its machine after so many of its steps
@@ -108,22 +137,6 @@ module _ (k : ℕ) (way : Way) (seen : List Event) (Is : ℕ → Machine → Typ
 
   abbrev Comes : ℕ → Core → Type 0
   Comes n c = Carried n c ⊎ IsBetween k c.seats
-
-  same_state : (n : ℕ) (c d : Core) → d ≡ c → Carried n c → Comes n d
-  same_state n c d same is = subst (Comes n) (sym same) (inl is)
-
-  by_start : (n j : ℕ) (asked : Call) (c d : Core) (o : Option Seat) (said : Started) → j ≢ k → HasBytes asked → seat_in c.seats j ≡ o → StartsAs c j asked o said d → Carried n c → Comes n d
-  by_start n j asked c d None said differ bytes at makes is = same_state n c d makes.1 is
-  by_start n j asked c d (Some (doing.Running m)) said differ bytes at makes is = same_state n c d makes.1 is
-  by_start n j asked c d (Some (doing.Idle own)) said differ bytes at (inl starts) is =
-      subst (Comes n) (sym starts.state) (inl (is.0, others_start k way seen c is.0 is.1 j differ own asked at bytes starts.can, is.2))
-  by_start n j asked c d (Some (doing.Idle own)) said differ bytes at (inr refused) is = same_state n c d refused.1 is
-
-  by_other : (n j : ℕ) (c d : Core) (o : Option Seat) (said : Stepped) → j ≢ k → seat_in c.seats j ≡ o → StepsAs c j o said d → Carried n c → Comes n d
-  by_other n j c d None said differ at makes is = same_state n c d makes.1 is
-  by_other n j c d (Some (doing.Idle own)) said differ at makes is = same_state n c d makes.1 is
-  by_other n j c d (Some (doing.Running other)) said differ at makes is =
-      subst (Comes n) (sym makes.state) (inl (is.0, others_step k way seen c is.0 is.1 j differ other makes.step at makes.plan, is.2))
 
   by_own : (n : ℕ) (c d : Core) (said : Stepped) (is : Carried n c) → Steps c k is.0 said d → Comes (n + 1) d
   by_own n c d said is makes =
@@ -143,16 +156,10 @@ module _ (k : ℕ) (way : Way) (seen : List Event) (Is : ℕ → Machine → Typ
         (stepped_after any_step_keeps any_word_fits c is.1.core k is.0 makes.step is.1.at makes.plan).own.1 ∙ ap (λ (p : Plan). Some (at_rest (got_of is.0 (word_in c makes.step)) p)) on,
       )
 
-  -- no table is made anew while a call runs
-  by_rehash : (n : ℕ) (c d : Core) (said : Rehashing) → RehashesAs c said d → Carried n c → Comes n d
-  by_rehash n c d rehashing.Done makes is = absurd (makes.can.seats k (doing.Running is.0) is.1.at)
-  by_rehash n c d rehashing.Refused makes is = same_state n c d makes.0 is
-  by_rehash n c d rehashing.OutOfMemory makes is = same_state n c d makes.0 is
-
   by_move : (n : ℕ) (c d : Core) (move : Move) → IsNoStart k move → Makes c move d → Carried n c → Comes (n + step_in k move) d
   by_move n c d (Start j asked) none makes is =
-      subst (λ x. Comes x d) (omega arith) (by_start n j asked c d (seat_in c.seats j) makes.1.0 none makes.0 refl makes.1.1 is)
-  by_move n c d Rehash none makes is = subst (λ x. Comes x d) (omega arith) (by_rehash n c d makes.0 makes.1 is)
+      subst (λ x. Comes x d) (omega arith) (inl (is.0, by_start k way seen c d is.0 is.1 j asked (seat_in c.seats j) makes.1.0 none makes.0 refl makes.1.1, is.2))
+  by_move n c d Rehash none makes is = subst (λ x. Comes x d) (omega arith) (inl (is.0, by_rehash k way seen c d is.0 is.1 makes.0 makes.1, is.2))
   by_move n c d (Step j) none makes is = elim (cases_eq j k) [
     | inl same ↦
         let one : (j == k) ≡ true = eq-eqb j k same in
@@ -161,7 +168,8 @@ module _ (k : ℕ) (way : Way) (seen : List Event) (Is : ℕ → Machine → Typ
         subst (λ b. Comes (n + cond b 1 0) d) (sym one) (by_own n c d makes.0 is steps)
     | inr differ ↦
         let none : (j == k) ≡ false = ne_eqb j k differ in
-        subst (λ b. Comes (n + cond b 1 0) d) (sym none) (subst (λ x. Comes x d) (omega arith) (by_other n j c d (seat_in c.seats j) makes.0 differ refl makes.1 is))
+        subst (λ b. Comes (n + cond b 1 0) d) (sym none)
+        (subst (λ x. Comes x d) (omega arith) (inl (is.0, by_other k way seen c d is.0 is.1 j (seat_in c.seats j) makes.0 differ refl makes.1, is.2)))
   ]
 
   by_moves : (n : ℕ) (c d : Core) (moves : List Move) → All (IsNoStart k) moves → LeadsTo c moves d → Comes n c → Comes (n + steps_of k moves) d
@@ -199,3 +207,10 @@ module _ (c d : Core) (core : IsCore c) (k : ℕ) (own : Own) (asked : Call) (mo
         let here = is.running in
         absurd (cc)
   ]
+
+-- no move of others changes what it is at
+pub others_leave : (c d new : Core) (k : ℕ) (own : Own) (asked : Call) (moves : List Move) (move : Move) (m : Machine) → IsCore c → IsUnderWay c k own asked moves d m → Makes d move new →
+    IsNoStart k move → move ≢ Step k → seat_in new.seats k ≡ Some (doing.Running m)
+others_leave c d new k own asked moves move m core is makes none other =
+    let follows : Following k (way_of asked) c.log d m = (carried c d core k own asked moves m is (λ n x. Unit {0}) tt (λ n b x s is planned so. tt)).0 in
+    (by_others k (way_of asked) c.log d new m follows move none other makes).at

@@ -66,7 +66,7 @@ module _ (k : ℕ) (way : Way) (seen : List Event) (c : Core) (m : Machine) (is 
   pub others_start : (own : Own) (asked : Call) → seat_in c.seats j ≡ Some (doing.Idle own) → HasBytes asked → CanStart c own asked →
       Following k way seen (with_seat c j (seat_after (started c.table.kind c.table.shape c.seed own asked))) m
   others_start own asked at bytes can =
-      let after = started_after c is.core j own at asked bytes can.may can.level can.log in
+      let after = started_after c is.core j own at asked bytes can.may can.log in
       let same = after.other k (doing.Running m) (λ e. differ (sym e)) is.at in
       record {
         core = after.core;

@@ -26,7 +26,7 @@ use Rattle.cht_core.proofs.StateSteps.{stepped_core}
 -- ONE MOVE
 
 starts_core : (c d : Core) → IsCore c → (k : ℕ) (asked : Call) (own : Own) → seat_in c.seats k ≡ Some (doing.Idle own) → HasBytes asked → (said : Started) → Starts c k own asked said d → IsCore d
-starts_core c d core k asked own at bytes said starts = subst IsCore (sym starts.state) (started_core c core k own at asked bytes starts.can.may starts.can.level starts.can.log)
+starts_core c d core k asked own at bytes said starts = subst IsCore (sym starts.state) (started_core c core k own at asked bytes starts.can.may starts.can.log)
 
 start_makes : (c d : Core) → IsCore c → (k : ℕ) (asked : Call) → HasBytes asked → (said : Started) → StartsAs c k asked (seat_in c.seats k) said d → IsCore d
 start_makes c d core k asked bytes said = go (seat_in c.seats k) refl

@@ -1,6 +1,5 @@
 -- A split brings a new seat, and answers with its number.
-use Rattle.std.proofs.Common.{◌≡◌, ◌≢◌, ℕ, ◌<◌, Bool, true, false, cond, nat_le, List, length, set, Option, Some, None, ◌⊎◌, inl, inr, refl, sym, ap, subst, ◌∙◌, arith}
-use Rattle.std.specs.Prelude.{IfSome}
+use Rattle.std.proofs.Common.{◌≡◌, ◌≢◌, ℕ, ◌<◌, Bool, true, false, cond, nat_le, List, length, set, Some, None, ◌⊎◌, inl, inr, refl, sym, ap, subst, ◌∙◌, arith}
 use Rattle.std.proofs.lemmas.Bool.{leb-false, lt-ltb}
 use Rattle.std.proofs.lemmas.Bool.Decides.{nat_tests}
 use Rattle.std.proofs.lemmas.List.{length-set}
@@ -22,8 +21,6 @@ use Rattle.call_machine.specs.declared.stage.Along.{Along}
 use Rattle.call_machine.specs.declared.stage.Asked.{Asked}
 use Rattle.call_machine.specs.declared.stage.CallStage.{CallStage}
 use Rattle.call_machine.specs.declared.stage.CallStage.TheVariants as stage
-use Rattle.call_machine.specs.declared.work.Work.{Work}
-use Rattle.call_machine.specs.declared.work.Work.TheVariants as work
 use Rattle.call_machine.specs.Begin.{begin_turn}
 use Rattle.call_machine.specs.Poll.{poll_turn}
 use Rattle.call_machine.specs.Sweep.{sweep_turn}
@@ -40,7 +37,6 @@ use Rattle.cht_core.specs.declared.seat.Seat.TheVariants as doing
 use Rattle.cht_core.specs.Begins.{first_own}
 use Rattle.cht_core.specs.Caused.{way_of}
 use Rattle.cht_core.specs.Flow.{Flow}
-use Rattle.cht_core.specs.KnowsWork.{KnowsWork}
 use Rattle.cht_core.specs.Memory.{Memory, memory_of}
 use Rattle.cht_core.specs.Past.{Past, past_of}
 use Rattle.cht_core.specs.Runs.{Move, IsUnderWay, BringsSeat, word_in}
@@ -50,7 +46,6 @@ use Rattle.cht_core.specs.Causes.{now_in}
 use Rattle.cht_core.proofs.CallBounds.{IsNoDraw, node_none, insert_none, leave_none, handle_none, read_row_none, find_row_none}
 use Rattle.cht_core.proofs.MachineBounds.{begin_draws_not, poll_draws_not, sweep_draws_not}
 use Rattle.cht_core.proofs.RunAnswers.{NeverSplits, never_on, never_ends, never_begins}
-use Rattle.cht_core.proofs.RunWorkAnswers.{IsClean}
 use Rattle.cht_core.proofs.RunCarries.{carried}
 use Rattle.cht_core.proofs.RunFollows.{Following}
 use Rattle.cht_core.proofs.Turns.{IfMakes}
@@ -199,24 +194,14 @@ split_brings c d k own moves m s number core under planned is =
     subst (λ (x : AtomicStep). BringsSeat d k m x number) (sym draws)
     (subst (BringsSeat d k m step.Draw) here (draw_brings d k m follows.0.core (subst (λ n. n < d.table.shape.seats) (sym here) inside)))
 
--- the works of a table of one level are cleans
-known_clean : (mem : Memory) (p : Past) (f : Flow) (i : ℕ) (w : Option Work) → IfSome w (KnowsWork mem p f i) → IfSome w IsClean
-known_clean mem p f i None knows = tt
-known_clean mem p f i (Some (work.Clean c)) knows = tt
-known_clean mem p f i (Some (work.Resize r)) knows = absurd knows
-
-begins_never : (c : Core) (core : IsCore c) (k : ℕ) (own : Own) (asked : Call) → seat_in c.seats k ≡ Some (doing.Idle own) → asked ≢ call.Split →
-    NeverSplits (started c.table.kind c.table.shape c.seed own asked)
-begins_never c core k own asked at differ =
-    let known = core.inv.knows k (view_at (core.sights k) k (doing.Idle own)) (view_is core.sights c.seats k (doing.Idle own) at) in
-    never_begins (caller_of c.table.kind c.table.shape c.seed own) own asked differ
-    (known_clean (memory_of c.table.shape c.words) (past_of c.table.shape.min_level c.log) core.inv.flow k own.work known.1.1)
+begins_never : (c : Core) (own : Own) (asked : Call) → asked ≢ call.Split → NeverSplits (started c.table.kind c.table.shape c.seed own asked)
+begins_never c own asked differ = never_begins (caller_of c.table.kind c.table.shape c.seed own) own asked differ
 
 pub others_never : (c d : Core) (k : ℕ) (own : Own) (asked : Call) (moves : List Move) (m : Machine) (s : AtomicStep) (number : ℕ) → IsCore c → IsUnderWay c k own asked moves d m → asked ≢ call.Split →
     plan_of m ≡ plan.Step s → plan_of (got_of m (word_in d s)) ≡ plan.Answered (answer.Split number) → ⊥
 others_never c d k own asked moves m s number core under differ planned is =
     let follows : Following k (way_of asked) c.log d m × NeverSplits m =
-    carried c d core k own asked moves m under (λ n x. NeverSplits x) (begins_never c core k own asked under.idle differ) (λ n b x s is planned so. never_on x (word_in b s) so) in
+    carried c d core k own asked moves m under (λ n x. NeverSplits x) (begins_never c own asked differ) (λ n b x s is planned so. never_on x (word_in b s) so) in
     never_ends (got_of m (word_in d s)) number is (never_on m (word_in d s) follows.1)
 
 -- no call answers so as it begins
@@ -227,7 +212,7 @@ none_at_once c core k own asked number at is = elim (split_or_not asked) [
       let splits : plan_of (started c.table.kind c.table.shape c.seed own call.Split) ≡ plan.Answered (answer.Split number) =
       subst (λ (x : Call). plan_of (started c.table.kind c.table.shape c.seed own x) ≡ plan.Answered (answer.Split number)) split is in
       absurd (cc)
-  | inr differ ↦ never_ends (started c.table.kind c.table.shape c.seed own asked) number is (begins_never c core k own asked at differ)
+  | inr differ ↦ never_ends (started c.table.kind c.table.shape c.seed own asked) number is (begins_never c own asked differ)
 ]
   where
     split_or_not : (asked : Call) → (asked ≡ call.Split) ⊎ (asked ≢ call.Split)

@@ -1,6 +1,6 @@
 -- No call that begins a work or a grace, no poll and no sweep answers with the number of a new seat.
-use Rattle.std.proofs.Common.{◌≡◌, ℕ, ◌+◌, ◌/◌, ◌^◌, ◌==◌, nat_le, nat_lt, List, [], ◌∷◌, length, Option, Some, None, subst}
-use Rattle.marked_word.specs.Head.{is_locked}
+use Rattle.std.proofs.Common.{◌≡◌, ℕ, ◌+◌, ◌/◌, ◌^◌, ◌==◌, nat_le, nat_lt, List, [], ◌∷◌, length, Option, Some, None, sym, subst, inl, inr}
+use Rattle.marked_word.specs.Head.{is_locked, first_of}
 use Rattle.table_shape.specs.declared.shape.Shape.{Shape}
 use Rattle.atomic_step.specs.declared.answer.Answer.{Answer}
 use Rattle.atomic_step.specs.declared.answer.Answer.TheVariants as answer
@@ -32,6 +32,10 @@ use Rattle.call_machine.specs.declared.pass.PassStage.{PassStage}
 use Rattle.call_machine.specs.declared.pass.Waiting.{Waiting}
 use Rattle.call_machine.specs.declared.resize.Direction.{Direction}
 use Rattle.call_machine.specs.declared.resize.Direction.TheVariants.{Grow, Shrink}
+use Rattle.call_machine.specs.declared.resize.AfterGrace.{AfterGrace}
+use Rattle.call_machine.specs.declared.resize.ResizeAlong.{ResizeAlong}
+use Rattle.call_machine.specs.declared.resize.ResizeStage.{ResizeStage}
+use Rattle.call_machine.specs.declared.resize.ResizeStage.TheVariants as resize
 use Rattle.call_machine.specs.declared.sweep.Closing.{Closing}
 use Rattle.call_machine.specs.declared.sweep.Closing.TheVariants as closing
 use Rattle.call_machine.specs.declared.sweep.SweepAlong.{SweepAlong}
@@ -47,7 +51,10 @@ use Rattle.call_machine.specs.Grace.{held_back, counts_grace, grace_row}
 use Rattle.call_machine.specs.Lock.{lock_row}
 use Rattle.call_machine.specs.Pass.{free_row, pass_row, passes_on}
 use Rattle.call_machine.specs.Poll.{poll_turn}
+use Rattle.call_machine.specs.Resize as resizes
 use Rattle.call_machine.specs.Sweep as sweeps
+use Rattle.call_machine.specs.Work.{resumes}
+use Rattle.cht_core.proofs.ResizeTurns.{GoesOn, locked_on, plain_on}
 use Rattle.cht_core.proofs.RunCallAnswers.{IsNoSplit}
 
 -- BEGINNINGS
@@ -98,14 +105,10 @@ abbrev pub PollNoSplit : Option Answer → Type 0
 PollNoSplit None = Unit {0}
 PollNoSplit (Some a) = IsNoSplit a
 
-abbrev pub IsClean : Work → Type 0
-IsClean (work.Clean c) = Unit {0}
-IsClean (work.Resize r) = ⊥
-
 held_no : (raised : ℕ) → PollNoSplit (held_back raised)
 held_no raised = either_way PollNoSplit (nat_le (2 ^ 63) raised) (Some (answer.PendingSeat 0)) None tt tt
 
-pub resumed_no : (w : CleanAlong) (s : CleanStage) → PollNoSplit (cleans.resumed w s)
+resumed_no : (w : CleanAlong) (s : CleanStage) → PollNoSplit (cleans.resumed w s)
 resumed_no w (clean.Grace which grace.RaiseCounter) = held_no w.grace.raised
 resumed_no w (clean.Grace which grace.LoadSection) = tt
 resumed_no w clean.LoadLevel = tt
@@ -153,18 +156,58 @@ clean_on shape w (clean.Grace which s) word =
 clean_on shape w (clean.Free which s) word = let came = (free_row w.cleaning s).next word in frees_no shape (record w { cleaning = came.0 }) which came.1
 clean_on shape w clean.GiveResizeLock word = tt
 
+went_no : (at : resizes.Went) → GoesOn at → PollNoSplit at.2
+went_no at on = elim on.1 [
+  | inl none ↦ subst PollNoSplit (sym none) tt
+  | inr back ↦ subst PollNoSplit (sym back) (held_no at.0.grace.raised)
+]
+
+resize_on : (shape : Shape) (d : Direction) (w : ResizeAlong) (s : ResizeStage) (word : ℕ) → PollNoSplit ((resizes.resize_row shape d w s).next word).2
+resize_on shape d w (resize.Lock side lock.LoadHead) word =
+    either_way (λ (at : Locking). PollNoSplit (resizes.locks_on d w side at).2) (is_locked word) locking.Waits (locking.Goes (lock.LockHead word)) tt tt
+resize_on shape d w (resize.Lock side (lock.LockHead head)) word =
+    either_way (λ (at : Locking). PollNoSplit (resizes.locks_on d w side at).2) (word == head) (locking.Locked (first_of word)) locking.Waits
+    (went_no (resizes.has_locked d w side (first_of word)) (locked_on d w side (first_of word))) tt
+resize_on shape d w (resize.Grace x s) word = let came = (grace_row shape.seats w.grace s).next word in graced_on (record w { grace = came.0; graces = counts_grace s w.graces }) x came.1
+  where
+    graced_on : (w : ResizeAlong) (x : AfterGrace) (g : Gracing) → PollNoSplit (resizes.graces_on w x g).2
+    graced_on w x gracing.Goes = tt
+    graced_on w x gracing.Waits = tt
+    graced_on w x gracing.Over = tt
+resize_on shape d w resize.GiveResizeLock word = tt
+resize_on shape d w resize.PutNewLevel word = tt
+resize_on shape d w (resize.PutHead side) word = tt
+resize_on shape d w (resize.RedirectHead side) word = went_no ((resizes.resize_row shape d w (resize.RedirectHead side)).next word) (plain_on shape d w (resize.RedirectHead side) word tt)
+resize_on shape d w (resize.Unzip s) word = went_no ((resizes.resize_row shape d w (resize.Unzip s)).next word) (plain_on shape d w (resize.Unzip s) word tt)
+resize_on shape d w (resize.Join s) word = went_no ((resizes.resize_row shape d w (resize.Join s)).next word) (plain_on shape d w (resize.Join s) word tt)
+resize_on shape d w (resize.UnlockHead side) word = went_no ((resizes.resize_row shape d w (resize.UnlockHead side)).next word) (plain_on shape d w (resize.UnlockHead side) word tt)
+resize_on shape d w resize.StoreLevel word = held_no w.grace.raised
+resize_on shape d w resize.ClearNewLevel word = tt
+
+resize_resumed_no : (w : ResizeAlong) (s : ResizeStage) → PollNoSplit (resizes.resumed w s)
+resize_resumed_no w (resize.Grace x grace.RaiseCounter) = held_no w.grace.raised
+resize_resumed_no w (resize.Grace x grace.LoadSection) = tt
+resize_resumed_no w _ = tt
+
+-- a poll begins so
+pub resumes_no : (w : Work) → PollNoSplit (resumes w).1
+resumes_no (work.Clean c) = resumed_no c.along c.stage
+resumes_no (work.Resize r) = resize_resumed_no r.along r.stage
+
 abbrev pub PolledNoSplit : Work × Option Answer → Type 0
-PolledNoSplit at = IsClean at.0 × PollNoSplit at.1
+PolledNoSplit at = PollNoSplit at.1
 
 pub poll_on : (caller : Caller) (w : Work) (a : Option Answer) (word : ℕ) → PolledNoSplit (w, a) → PolledNoSplit (next_in (w, a) (poll_turn caller (w, a)) word)
-poll_on caller (work.Clean c) None word h = (tt, clean_on caller.shape c.along c.stage word)
+poll_on caller (work.Clean c) None word h = clean_on caller.shape c.along c.stage word
 poll_on caller (work.Clean c) (Some a) word h = h
-poll_on caller (work.Resize r) a word h = absurd h.0
+poll_on caller (work.Resize r) None word h = resize_on caller.shape r.direction r.along r.stage word
+poll_on caller (work.Resize r) (Some a) word h = h
 
 pub poll_ends : (caller : Caller) (w : Work) (a : Option Answer) (number : ℕ) → plan_in (poll_turn caller (w, a)) ≡ plan.Answered (answer.Split number) → PolledNoSplit (w, a) → ⊥
 poll_ends caller (work.Clean c) None number is h = absurd (cc)
-poll_ends caller (work.Clean c) (Some a) number is h = let same : a ≡ answer.Split number = cc in subst IsNoSplit same h.1
-poll_ends caller (work.Resize r) a number is h = absurd h.0
+poll_ends caller (work.Clean c) (Some a) number is h = let same : a ≡ answer.Split number = cc in subst IsNoSplit same h
+poll_ends caller (work.Resize r) None number is h = absurd (cc)
+poll_ends caller (work.Resize r) (Some a) number is h = let same : a ≡ answer.Split number = cc in subst IsNoSplit same h
 
 -- SWEEPS
 

@@ -53,9 +53,14 @@ use Rattle.call_machine.specs.Sought.{is_too_long}
 use Rattle.call_machine.specs.Sweep.{begun_sweep}
 use Rattle.call_machine.specs.WholeMachine.{IsSingle}
 use Rattle.call_machine.specs.Work.{resumes}
+use Rattle.call_machine.specs.declared.resize.Resize.{Resize}
+use Rattle.call_machine.specs.declared.resize.ResizeAlong.{ResizeAlong}
+use Rattle.call_machine.specs.declared.resize.ResizeStage.{ResizeStage}
+use Rattle.call_machine.specs.declared.resize.ResizeStage.TheVariants as resize
+use Rattle.call_machine.specs.Resize as resizes
 use Rattle.cht_core.specs.declared.seat.Seat.TheVariants as doing
 use Rattle.cht_core.specs.declared.table.Table.{Table}
-use Rattle.cht_core.specs.Begins.{IsHeld, IsCreated, MayRead, MeetsLog, IsOfOneLevel, HasBytes}
+use Rattle.cht_core.specs.Begins.{IsHeld, IsCreated, MayRead, MeetsLog, HasBytes}
 use Rattle.cht_core.specs.Bounds.{raised_by, raises_work, draws_at, raises_begin}
 use Rattle.cht_core.specs.Flow.{Flow}
 use Rattle.cht_core.specs.KnowsCall.{MayChange, KnowsRead, KnowsStage}
@@ -81,6 +86,11 @@ resumed_left w (clean.Grace freeing RaiseCounter) c = either_way (λ (a : Option
 resumed_left w (clean.Grace freeing LoadSection) c = refl
 resumed_left w (clean.Free freeing s) c = refl
 resumed_left w clean.GiveResizeLock c = refl
+
+resize_resumed_left : (w : ResizeAlong) (s : ResizeStage) (c : Work) → work_left c (resizes.resumed w s) ≡ Some c
+resize_resumed_left w (resize.Grace then_do RaiseCounter) c = either_way (λ (a : Option Answer). work_left c a ≡ Some c) (nat_le (2 ^ 63) w.grace.raised) (Some (answer.PendingSeat 0)) None refl refl
+resize_resumed_left w (resize.Grace then_do LoadSection) c = refl
+resize_resumed_left w _ c = refl
 
 -- a poll that is begun twice is begun once
 resumed_twice : (w : CleanAlong) (s : CleanStage) → resumed (record w { full_passes = 0 }) s ≡ resumed w s
@@ -123,7 +133,7 @@ module _ (t : Table) (m : Memory) (p : Past) (f : Flow) (i load : ℕ) (own : Ow
       (call_begins aim text no_handle (stage.Find (find.Enter LoadCounter)) bytes refl (known.0, tt, refl, refl))
 
   -- a call that begins a work or a grace
-  begin_begins : (s : BeginStage) → KnowsBegin p.now i s → raises_begin s ≡ 0 → left_of s ≡ left.Nothing → Begins (machine.Begin (record { caller = caller; stage = s }))
+  begin_begins : (s : BeginStage) → KnowsBegin p.now f i s → raises_begin s ≡ 0 → left_of s ≡ left.Nothing → Begins (machine.Begin (record { caller = caller; stage = s }))
   begin_begins s knows none nothing_left sound = (
     (
       record {
@@ -177,10 +187,31 @@ module _ (t : Table) (m : Memory) (p : Past) (f : Flow) (i load : ℕ) (own : Ow
         },
       )
 
+  resize_poll_begins : (r : Resize) → own.work ≡ Some (work.Resize r) → Begins (machine.Poll (begun_poll caller (work.Resize r)))
+  resize_poll_begins r is sound =
+      let now : Work = work.Resize r in
+      let left : work_left now (resumes now).1 ≡ Some now = resize_resumed_left r.along r.stage now in
+      let raises : raises_work (work_left now (resumes now).1) ≡ raises_work own.work = ap raises_work left ∙ ap raises_work (sym is) in (
+        (
+          record { shape = refl; kind = refl; seed = refl; number = of.number; bytes = no_bytes; sound = sound; single = inr refl },
+          (known.0, resumed_knows m p f i now (subst (λ (o : Option Work). IfSome o (KnowsWork m p f i)) is known.1)),
+        ),
+        record {
+          draws = omega arith;
+          raises = omega (arith, raises);
+          works = λ w at raised.
+              let same : now ≡ w = cc in
+              (now, is, ap raised_by same);
+          polls = λ q running unanswered.
+              let same : begun_poll caller now ≡ q = cc in
+              ap (λ (x : Polling). (resumes x.work).1) (sym same) ∙ ap (λ (x : Polling). x.answer) same ∙ unanswered;
+        },
+      )
+
   work_poll_begins : (w : Option Work) → own.work ≡ w → Begins (begun_work_poll caller w)
   work_poll_begins None is = nothing_begins
   work_poll_begins (Some (work.Clean c)) is = clean_poll_begins c is
-  work_poll_begins (Some (work.Resize r)) is = absurd (subst (λ (o : Option Work). IfSome o (KnowsWork m p f i)) is known.1)
+  work_poll_begins (Some (work.Resize r)) is = resize_poll_begins r is
 
   -- a sweep
   sweep_begins : (hash : ℕ) → Begins (machine.Sweep (begun_sweep caller hash))
@@ -204,20 +235,20 @@ module _ (t : Table) (m : Memory) (p : Past) (f : Flow) (i load : ℕ) (own : Ow
     change_begins way h may = call_begins goal.Lookup [] h (stage.Handle (handle.Count way)) no_bytes refl (known.0, may)
 
     -- each call at its beginning
-    pub starts_begins : (c : Call) → IsAllowed t.kind (is_some own.work) (is_some own.grace) c → IsOfOneLevel c → HasBytes c → MeetsLog t.kind log numbers c → Begins (starts caller own c)
-    starts_begins call.Split allowed level bytes may = call_begins goal.Lookup [] no_handle (stage.Draw draw.Load) no_bytes refl known.0
-    starts_begins (call.Intern text) allowed level bytes may = walk_begins goal.Intern text.now bytes
-    starts_begins (call.Lookup text) allowed level bytes may = walk_begins goal.Lookup text.now bytes
-    starts_begins (call.InternWait text) allowed level bytes may = walk_begins goal.InternWait text.now bytes
-    starts_begins (call.TextOf h) allowed level bytes may =
+    pub starts_begins : (c : Call) → IsAllowed t.kind (is_some own.work) (is_some own.grace) c → HasBytes c → MeetsLog t.kind log numbers c → Begins (starts caller own c)
+    starts_begins call.Split allowed bytes may = call_begins goal.Lookup [] no_handle (stage.Draw draw.Load) no_bytes refl known.0
+    starts_begins (call.Intern text) allowed bytes may = walk_begins goal.Intern text.now bytes
+    starts_begins (call.Lookup text) allowed bytes may = walk_begins goal.Lookup text.now bytes
+    starts_begins (call.InternWait text) allowed bytes may = walk_begins goal.InternWait text.now bytes
+    starts_begins (call.TextOf h) allowed bytes may =
         call_begins goal.Lookup [] h (stage.Read (first_read t.kind)) no_bytes refl (read_begins t.kind (begun_read caller h).asked may)
-    starts_begins (call.Drop h) allowed level bytes may = change_begins change.Drop h (allowed, held h may)
-    starts_begins (call.Permanent h) allowed level bytes may = change_begins change.Permanent h (allowed, held h may)
-    starts_begins (call.Kill h) allowed level bytes may = change_begins change.Kill h (allowed, created h may)
-    starts_begins call.BeginClean allowed level bytes may = begin_begins (begin.LoadCounter (Some task.Clean)) refl refl refl
-    starts_begins call.BeginGrow allowed level bytes may = absurd level
-    starts_begins call.BeginShrink allowed level bytes may = absurd level
-    starts_begins call.BeginGrace allowed level bytes may = begin_begins (begin.LoadCounter None) tt refl refl
-    starts_begins call.PollGrace allowed level bytes may = grace_poll_begins own.grace refl
-    starts_begins call.PollWork allowed level bytes may = work_poll_begins own.work refl
-    starts_begins (call.Sweep text) allowed level bytes may = sweep_begins (hash_of p.now.seed text.now)
+    starts_begins (call.Drop h) allowed bytes may = change_begins change.Drop h (allowed, held h may)
+    starts_begins (call.Permanent h) allowed bytes may = change_begins change.Permanent h (allowed, held h may)
+    starts_begins (call.Kill h) allowed bytes may = change_begins change.Kill h (allowed, created h may)
+    starts_begins call.BeginClean allowed bytes may = begin_begins (begin.LoadCounter (Some task.Clean)) tt refl refl
+    starts_begins call.BeginGrow allowed bytes may = begin_begins (begin.LoadCounter (Some task.Grow)) tt refl refl
+    starts_begins call.BeginShrink allowed bytes may = begin_begins (begin.LoadCounter (Some task.Shrink)) tt refl refl
+    starts_begins call.BeginGrace allowed bytes may = begin_begins (begin.LoadCounter None) tt refl refl
+    starts_begins call.PollGrace allowed bytes may = grace_poll_begins own.grace refl
+    starts_begins call.PollWork allowed bytes may = work_poll_begins own.work refl
+    starts_begins (call.Sweep text) allowed bytes may = sweep_begins (hash_of p.now.seed text.now)

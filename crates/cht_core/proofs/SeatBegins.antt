@@ -4,17 +4,19 @@ use Rattle.intern_log.specs.declared.event.Event.{Event}
 use Rattle.intern_log.specs.declared.event.Handle.{Handle}
 use Rattle.intern_log.specs.Own.{mine, gains, losses}
 use Rattle.call_machine.specs.declared.machine.Machine.{Machine}
-use Rattle.call_machine.specs.Machine.{started}
+use Rattle.call_machine.specs.Machine.{started, caller_of}
 use Rattle.call_machine.proofs.Machines.{start_law}
 use Rattle.cht_core.specs.declared.seat.Seat.{Seat}
 use Rattle.cht_core.specs.declared.seat.Seat.TheVariants as doing
 use Rattle.cht_core.specs.declared.table.Table.{Table}
 use Rattle.cht_core.specs.Begins.{MayBegin, IsHeld, begun_view}
+use Rattle.cht_core.specs.Graces.{GrowsWithFew}
 use Rattle.cht_core.specs.Invariant.{Inv}
 use Rattle.cht_core.specs.Memory.{Memory}
 use Rattle.cht_core.specs.Owes.{Owes}
 use Rattle.cht_core.specs.Past.{Past, past_of}
 use Rattle.cht_core.specs.View.{View, IsOwnOf, KnowsOwn, Knows}
+use Rattle.cht_core.proofs.FewSeats.{starts_few}
 use Rattle.cht_core.proofs.OwesRests.{owes_started}
 use Rattle.cht_core.proofs.SeatBeginCalls.{starts_begins}
 use Rattle.cht_core.proofs.SeatMoves.{IsNoMore, owed_by, moved_inv}
@@ -29,14 +31,15 @@ holds_by_log t m seat log i v inv at h held =
 
 -- a seat between its calls may begin a call
 pub may_begin : MayBegin
-may_begin t m seat seat' log i v own c inv at idle may level bytes meets moves =
+may_begin t m seat seat' log i v own c inv at idle may bytes meets moves =
     let p : Past = past_of t.shape.min_level log in
     let known : IsOwnOf t i own × KnowsOwn m p inv.flow i own = subst (λ (s : Seat). Knows t m p inv.flow i (record v { seat = s })) idle (inv.knows i v at) in
     let owed : Owes p i (doing.Idle own) = subst (Owes p i) idle (owed_by t m seat log i v inv at) in
     let k : Machine = started t.kind t.shape p.now.seed own c in
     let few : p.now.seed ≤ 2 = inv.table.tidy.seed in
     let small : p.now.seed < 2 ^ 32 = omega (arith, few) in
-    let begins = starts_begins t m p inv.flow i v.load own known.0 known.1 log v.numbers (holds_by_log t m seat log i v inv at) (λ h made. made) c may.2 level bytes meets
+    let begins = starts_begins t m p inv.flow i v.load own known.0 known.1 log v.numbers (holds_by_log t m seat log i v inv at) (λ h made. made) c may.2 bytes meets
     (start_law t.kind t.shape p.now.seed own c inv.table.shape small known.0.sound may) in
     let less : IsNoMore v.seat (doing.Running k) = subst (λ (s : Seat). IsNoMore s (doing.Running k)) (sym idle) begins.1 in
     moved_inv t m seat seat' log i v (begun_view t p.now.seed v own c) inv at moves refl begins.0 (owes_started p i t.kind t.shape p.now.seed own c known.0.single may owed) less
+    (starts_few p.now log inv.flow (caller_of t.kind t.shape p.now.seed own) own c (subst (GrowsWithFew p.now log inv.flow) idle (inv.graces i v at)))

@@ -1,5 +1,5 @@
 -- A seat may be added, and an idle seat without a work may be joined into another one.
-use Rattle.std.proofs.Common.{◌≡◌, ◌≢◌, ℕ, zero, suc, ◌+◌, ◌*◌, ◌/◌, ◌<◌, ◌≤◌, List, ◌++◌, Option, Some, None, inl, inr, refl, sym, ap, subst, ◌∙◌, arith}
+use Rattle.std.proofs.Common.{◌≡◌, ◌≢◌, true, false, ℕ, zero, suc, ◌+◌, ◌*◌, ◌/◌, ◌<◌, ◌≤◌, List, ◌++◌, Option, Some, None, inl, inr, refl, sym, ap, subst, ◌∙◌, arith}
 use Rattle.std.specs.Option.{option_map}
 use Rattle.std.proofs.lemmas.Bool.{cases_eq}
 use Rattle.std.proofs.Math.Nat.{mul-le-mul_right, mul-div-le, suc-mul}
@@ -17,6 +17,7 @@ use Rattle.cht_core.specs.declared.seat.Seat.TheVariants as doing
 use Rattle.cht_core.specs.declared.table.Table.{Table}
 use Rattle.cht_core.specs.Begins.{MayBeAdded, MayJoin, Joins, first_own, new_view}
 use Rattle.cht_core.specs.Flow.{Flow}
+use Rattle.cht_core.specs.Graces.{GrowsWithFew}
 use Rattle.cht_core.specs.Invariant.{Inv, Numbers, Holds}
 use Rattle.cht_core.specs.Ledger.{Balanced, sum_below}
 use Rattle.cht_core.specs.Memory.{Memory}
@@ -25,6 +26,7 @@ use Rattle.cht_core.specs.Past.{Past, past_of}
 use Rattle.cht_core.specs.Search.{IsOutside}
 use Rattle.cht_core.specs.View.{View, IsOwnOf, KnowsOwn, Knows}
 use Rattle.cht_core.proofs.Basics.{with_here, with_other}
+use Rattle.cht_core.proofs.FewSeats.{seat_stays}
 use Rattle.cht_core.proofs.FlowHolds.{with_holds, table_with_holds, knows_with_holds}
 use Rattle.cht_core.proofs.Ledgers.{sum_changed}
 use Rattle.cht_core.proofs.OwesRests.{owes_of_new_seat}
@@ -72,6 +74,7 @@ may_be_added t m seat seat' log i inv free inside unused moves =
       holds = seats.1;
       lawful = inv.lawful;
       edges = inv.edges;
+      graces = each_seat seat seat' i (new_view t.shape i) moves (λ k u. GrowsWithFew p.now log inv.flow u.seat) (tt, tt) (λ k u differ is. inv.graces k u is);
     }
 
 -- the holds with those of one seat added to another one's
@@ -130,7 +133,7 @@ idle_owes_nothing p i own none outside owes =
       section = outside;
       claimed = λ slot is. let never : None ≡ Some slot = had.claimed slot is in absurd (cc);
       unlinked = λ slot at is. elim (had.unlinked slot at is) [ inl on ↦ absurd on | inr used ↦ used ];
-      locked = λ row bucket is. let never : None ≡ Some (row, bucket) = had.locked row bucket is in absurd (cc);
+      locked = λ row bucket is. let never : false ≡ true = had.locked row bucket is in absurd (cc);
       owner = λ is. absurd (let never = had.owner is in cc);
     }
 
@@ -180,6 +183,9 @@ module _ (t : Table) (m : Memory) (seat seat' : ℕ → Option View) (log : List
   from_after : (k : ℕ) (w : View) → seat k ≡ Some w → IsFrom (seat k) w.seat
   from_after k w is = subst (λ (o : Option View). IsFrom o w.seat) (sym is) (stays_no_more t m seat seat' inv.bounds k w is)
 
+  few_after : (k : ℕ) (w : View) → seat k ≡ Some w → GrowsWithFew past_here.now log joined_flow w.seat
+  few_after k w is = seat_stays past_here.now past_here.now log log refl (λ test. omega arith) inv.flow joined_flow w.seat (λ u has x not. not) (inv.graces k w is)
+
   nothing_after : OwesNothing past_here j
   nothing_after =
       let known : IsOwnOf t j own × KnowsOwn m past_here inv.flow j own =
@@ -217,6 +223,7 @@ module _ (t : Table) (m : Memory) (seat seat' : ℕ → Option View) (log : List
         holds = seats.1;
         lawful = inv.lawful;
         edges = inv.edges;
+        graces = each_joined (λ k w. GrowsWithFew past_here.now log joined_flow w.seat) (few_after i v joins.to) (λ k w differ other is. few_after k w is);
       }
 
 -- an idle seat without a work may be joined into another one, which then has the numbers and the holds of both

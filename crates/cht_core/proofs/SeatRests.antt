@@ -1,5 +1,5 @@
 -- A seat whose call has answered may be between its calls: what the call leaves it, it knows and owes.
-use Rattle.std.proofs.Common.{◌≡◌, ℕ, ◌<◌, ◌≤◌, List, Option, Some, None, refl, sym, ap, subst, ◌∙◌, arith}
+use Rattle.std.proofs.Common.{◌≡◌, ℕ, ◌+◌, ◌-◌, ◌<◌, ◌≤◌, List, Option, Some, None, refl, sym, ap, subst, ◌∙◌, arith}
 use Rattle.table_shape.specs.declared.shape.Shape.{Shape}
 use Rattle.atomic_step.specs.declared.answer.Answer.{Answer}
 use Rattle.atomic_step.specs.declared.plan.Plan.TheVariants as plan
@@ -28,12 +28,18 @@ use Rattle.call_machine.specs.SoundMachine.{IsSoundOwn}
 use Rattle.call_machine.specs.Sweep.{sweep_turn}
 use Rattle.call_machine.specs.Work.{begun_work}
 use Rattle.call_machine.proofs.Machines.{plan_is, left_law}
+use Rattle.call_machine.specs.declared.resize.Direction.TheVariants.{Grow, Shrink}
+use Rattle.call_machine.specs.SoundBegin.{IsSoundLeft}
+use Rattle.cht_core.specs.KnowsResize.{Resizing, NoHead}
+use Rattle.cht_core.specs.Stage.{Quiet}
+use Rattle.call_machine.specs.SoundMachine.{IsSoundMachine}
 use Rattle.cht_core.specs.declared.seat.Seat.{Seat}
 use Rattle.cht_core.specs.declared.seat.Seat.TheVariants as doing
 use Rattle.cht_core.specs.declared.table.Table.{Table}
 use Rattle.cht_core.specs.Begins.{MayRest, idle_view}
 use Rattle.cht_core.specs.Bounds.{raised_by, raises_left, raises_work}
 use Rattle.cht_core.specs.Flow.{Flow}
+use Rattle.cht_core.specs.Graces.{GrowsWithFew}
 use Rattle.cht_core.specs.KnowsCall.{KnowsStage}
 use Rattle.cht_core.specs.KnowsWork.{KnowsLeft, KnowsBegin, KnowsSweep}
 use Rattle.cht_core.specs.Memory.{Memory}
@@ -41,6 +47,7 @@ use Rattle.cht_core.specs.Owes.{Owes}
 use Rattle.cht_core.specs.Past.{Past, past_of}
 use Rattle.cht_core.specs.Search.{IsOutside}
 use Rattle.cht_core.specs.View.{IsOfSeat, IsOwnOf, KnowsOwn, KnowsMachine, Knows}
+use Rattle.cht_core.proofs.FewSeats.{rests_few}
 use Rattle.cht_core.proofs.OwesRests.{owes_at_rest}
 use Rattle.cht_core.proofs.SeatMoves.{IsGoodPoll, IsNoMore, owed_by, moved_inv}
 
@@ -76,23 +83,27 @@ sweep_answered q w (sweep.Free s) a is = absurd (cc)
 
 module _ (m : Memory) (p : Past) (f : Flow) (i load : ℕ) (passed : List ℕ) (a : Answer) where
   -- what a call that begins a work or a grace leaves its seat, the seat knows
-  begun_knows : (caller : Caller) (l : Left) → IsOutside p.now i → KnowsLeft p.now i l → KnowsOwn m p f i (own_begun caller l)
-  begun_knows caller left.Nothing outside known = (outside, tt, tt)
-  begun_knows caller left.Clean outside known = (outside, (known, refl), tt)
-  begun_knows caller (left.Resize d level) outside known = absurd known
-  begun_knows caller (left.Grace g) outside known = (outside, tt, known)
+  begun_knows : (caller : Caller) (l : Left) → IsSoundLeft caller.shape l → IsOutside p.now i → KnowsLeft p.now f i l → KnowsOwn m p f i (own_begun caller l)
+  begun_knows caller left.Nothing sound outside known = (outside, tt, tt)
+  begun_knows caller left.Clean sound outside known = (outside, (known, refl), tt)
+  begun_knows caller (left.Resize Grow level) sound outside known = (outside, known, tt)
+  begun_knows caller (left.Resize Shrink level) sound outside known =
+      let more : caller.shape.min_level < level = sound.0 in
+      let below : level ≡ (level - 1) + 1 = omega (arith, more) in
+      (outside, (level - 1, below, subst (λ (l : ℕ). Resizing p.now f i l Quiet NoHead) below known), tt)
+  begun_knows caller (left.Grace g) sound outside known = (outside, tt, known)
 
   -- of a machine that has answered its seat knows what it has of its own
-  pub rests_knows : (k : Machine) → plan_of k ≡ plan.Answered a → KnowsMachine m p f i load passed k → KnowsOwn m p f i (own_of k)
-  rests_knows (machine.Call c w g) is known =
+  pub rests_knows : (k : Machine) → IsSoundMachine k → plan_of k ≡ plan.Answered a → KnowsMachine m p f i load passed k → KnowsOwn m p f i (own_of k)
+  rests_knows (machine.Call c w g) sound is known =
       let at : c.stage ≡ stage.Answered a = call_answered c.asked c.along c.stage a (sym (plan_is (machine.Call c w g)) ∙ is) in
       (subst (λ (s : CallStage). KnowsStage m p f i load passed c.asked c.along s) at known.0.0, known.1, known.2)
-  rests_knows (machine.Begin b) is known =
+  rests_knows (machine.Begin b) sound is known =
       let (l, at) = begin_answered b.caller b.stage a (sym (plan_is (machine.Begin b)) ∙ is) in
       subst (λ (s : BeginStage). KnowsOwn m p f i (own_begun b.caller (left_of s))) (sym at)
-      (begun_knows b.caller l known.0 (subst (λ (s : BeginStage). KnowsBegin p.now i s) at known.1))
-  rests_knows (machine.Poll q) is known = (known.0, known.1, tt)
-  rests_knows (machine.Sweep s) is known =
+      (begun_knows b.caller l (subst (λ (s : BeginStage). IsSoundLeft b.caller.shape (left_of s)) at sound.left) known.0 (subst (λ (s : BeginStage). KnowsBegin p.now f i s) at known.1))
+  rests_knows (machine.Poll q) sound is known = (known.0, known.1, tt)
+  rests_knows (machine.Sweep s) sound is known =
       let at : s.stage ≡ sweep.Answered a = sweep_answered s.asked s.along s.stage a (sym (plan_is (machine.Sweep s)) ∙ is) in
       (subst (λ (x : SweepStage). KnowsSweep m p f i s.asked s.along x) at known, tt, tt)
 
@@ -101,10 +112,10 @@ module _ (m : Memory) (p : Past) (f : Flow) (i load : ℕ) (passed : List ℕ) (
   idle_polls own q running unanswered = absurd (cc)
 
   -- a work that has begun has raised the counter not yet
-  begun_raises : (caller : Caller) (l : Left) → KnowsLeft p.now i l → raises_work (begun_work caller.shape l) ≤ raises_left l
+  begun_raises : (caller : Caller) (l : Left) → KnowsLeft p.now f i l → raises_work (begun_work caller.shape l) ≤ raises_left l
   begun_raises caller left.Nothing known = omega arith
   begun_raises caller left.Clean known = omega arith
-  begun_raises caller (left.Resize d level) known = absurd known
+  begun_raises caller (left.Resize d level) known = omega arith
   begun_raises caller (left.Grace g) known = omega arith
 
   abbrev raised_of : Option Work → ℕ
@@ -129,7 +140,7 @@ module _ (m : Memory) (p : Past) (f : Flow) (i load : ℕ) (passed : List ℕ) (
       let (l, at) = begin_answered b.caller b.stage a (sym (plan_is (machine.Begin b)) ∙ is) in
       subst (λ (s : BeginStage). IsNoMore (doing.Running (machine.Begin (record b { stage = s }))) (doing.Idle (own_begun b.caller (left_of s)))) (sym at) (record {
         draws = omega arith;
-        raises = begun_raises b.caller l (subst (λ (s : BeginStage). KnowsBegin p.now i s) at known.1);
+        raises = begun_raises b.caller l (subst (λ (s : BeginStage). KnowsBegin p.now f i s) at known.1);
         works = λ u begun raised. absurd (begun_unraised b.caller l u begun raised);
         polls = idle_polls (own_begun b.caller l);
       })
@@ -170,6 +181,6 @@ may_rest t m seat seat' log i v k a inv at running answered moves =
     let less : IsNoMore v.seat (doing.Idle (own_of k)) =
     subst (λ (s : Seat). IsNoMore s (doing.Idle (own_of k))) (sym running) (rests_no_more m p inv.flow i v.load v.passed a k answered known.1) in
     moved_inv t m seat seat' log i v (idle_view v (own_of k)) inv at moves refl
-    (rests_own m p inv.flow i v.load v.passed a t k known.0, rests_knows m p inv.flow i v.load v.passed a k answered known.1)
+    (rests_own m p inv.flow i v.load v.passed a t k known.0, rests_knows m p inv.flow i v.load v.passed a k known.0.sound answered known.1)
     (owes_at_rest p i k a known.0.sound owed answered)
-    less
+    less (rests_few p.now log inv.flow k (subst (GrowsWithFew p.now log inv.flow) running (inv.graces i v at)))

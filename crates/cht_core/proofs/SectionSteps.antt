@@ -1,22 +1,25 @@
 -- Drawing a number, opening and closing a section, and raising the counter keep the table.
-use Rattle.std.proofs.Common.{◌≡◌, ◌≢◌, ℕ, ◌+◌, ◌-◌, ◌%◌, ◌^◌, ◌<◌, ◌≤◌, Option, Some, None, refl, sym, ap, subst, ◌∙◌, inl, inr, arith}
+use Rattle.std.proofs.Common.{◌≡◌, ◌≢◌, ℕ, ◌+◌, ◌-◌, ◌%◌, ◌^◌, ◌<◌, ◌≤◌, Bool, true, false, cond, if◌then◌else◌, Option, Some, None, refl, sym, ap, subst, ◌∙◌, inl, inr, arith}
 use Rattle.std.specs.Prelude.{◌*◌}
 use Rattle.std.specs.Option.{option_map}
 use Rattle.std.proofs.Math.Bool.{or-false}
-use Rattle.std.proofs.lemmas.Bool.{cases_eq}
+use Rattle.std.proofs.lemmas.Bool.{cases_eq, eqb-true}
 use Rattle.table_shape.specs.declared.place.Place.TheVariants as place
 use Rattle.marked_word.specs.Number.{section_word}
 use Rattle.intern_log.specs.declared.event.What.TheVariants as what
-use Rattle.intern_log.specs.Now.{Now, OpenSection, with_at}
+use Rattle.intern_log.specs.Now.{Now, OpenSection, with_at, owner_of}
 use Rattle.atomic_step.specs.declared.step.Step.TheVariants as step
 use Rattle.atomic_step.specs.SoundStep.{IsSoundStep}
 use Rattle.cht_core.specs.declared.table.Table.{Table}
 use Rattle.cht_core.specs.Backs.{KeepsTable, Goes}
+use Rattle.cht_core.specs.Flow.{Flow, is_owner_in, raised_at, parted_after}
 use Rattle.cht_core.specs.Heads.{Sections}
 use Rattle.cht_core.specs.Memory.{Memory, IsMade}
 use Rattle.cht_core.specs.Past.{Past, told, MayTell, kind_of}
+use Rattle.cht_core.specs.Stage.{Parted, Whole, Pending, Since, IsSpared}
+use Rattle.cht_core.specs.Tidy.{IsTidy}
 use Rattle.cht_core.proofs.Basics.{with_here, with_other}
-use Rattle.cht_core.proofs.CalmParts.{Calm, SameSeats, calm_now, calm_goes_on}
+use Rattle.cht_core.proofs.CalmParts.{Calm, SameParted, SameSeats, calm_now, calm_goes_on, calm_parts_go_on, same_resize}
 use Rattle.cht_core.proofs.CalmWords.{private_words, slot_words, slot_still_goes, still_calm, same_slots, same_seats, same_works, calm_same_slots}
 use Rattle.cht_core.proofs.TidyKept.{tidy_told}
 use Rattle.cht_core.proofs.WordsKept.{words_kept}
@@ -28,6 +31,31 @@ draw_keeps t m m' p f i text table inside sound backs made =
     slot_still_goes t m m' p f i step.Draw table inside sound made tt tt
     (calm_same_slots i m m' p p calm t table.slots refl (λ s. made.there (place.Claim s) (λ e. cc)) (λ s. made.there (place.Count s) (λ e. cc)))
     (omega arith) (λ try s at is. made.there (place.Count s) (λ e. cc))
+
+-- a raise of the counter by the owner of the resize lock puts its place to the slots that wait for it
+raise_parts : (t : Table) (n : Now) (f : Flow) (i : ℕ) → IsTidy t n → (owner : Option ℕ) → owner_of n.resizing ≡ owner
+    → SameParted i n f (if is_owner_in owner i then (λ s. raised_at n.place (f.parted s)) else f.parted)
+raise_parts t n f i tidy owner is = go (is_owner_in owner i) refl
+  where
+    raised_spared : (at : ℕ) (part : Parted) → at ≤ n.place → IsSpared part at → IsSpared (raised_at n.place part) at
+    raised_spared at Whole early spared = tt
+    raised_spared at Pending early spared = early
+    raised_spared at (Since raise) early spared = spared
+
+    raised_whole : (part : Parted) → part ≡ Whole → raised_at n.place part ≡ Whole
+    raised_whole part is = ap (raised_at n.place) is
+
+    mine : (o : Option ℕ) (k : ℕ) → is_owner_in o i ≡ true → o ≡ Some k → k ≡ i
+    mine None k owns at = absurd (cc)
+    mine (Some j) k owns at = let same : j ≡ k = cc in sym same ∙ eqb-true j i owns
+
+    go : (b : Bool) → is_owner_in owner i ≡ b → SameParted i n f (cond b (λ s. raised_at n.place (f.parted s)) f.parted)
+    go true owns = record {
+      spared = λ k s o inside spared. raised_spared o.place (f.parted s) (let early : o.place < n.place = (tidy.sections k o inside).0 in omega (arith, early)) spared;
+      whole = λ s whole. raised_whole (f.parted s) whole;
+      others = λ k differs at s. absurd (differs (mine owner k owns (sym is ∙ at)));
+    }
+    go false owns = record { spared = λ k s o inside spared. spared; whole = λ s whole. whole; others = λ k differs at s. refl }
 
 -- raising the counter keeps the table
 pub raise_counter_keeps : KeepsTable step.RaiseCounter
@@ -46,12 +74,15 @@ raise_counter_keeps t m m' p f i text table inside sound backs made =
       slots = same_slots i p.now q.now refl;
       seats = same_seats i m p.now q.now refl refl;
     } in
-    calm_goes_on i m m' p q calm t f step.RaiseCounter (Some what.Grace) table tt (tidy_told t p i (Some what.Grace) table.tidy tt)
+    calm_parts_go_on i m m' p q calm t f (parted_after p.now i f.stage step.RaiseCounter (m place.Counter) f.parted) step.RaiseCounter (Some what.Grace)
+    (raise_parts t p.now f i table.tidy (owner_of p.now.resizing) refl) table tt (tidy_told t p i (Some what.Grace) table.tidy tt)
     (words_kept t m m' i step.RaiseCounter table.words inside sound made (omega arith) (omega (arith, raised, room)))
     (calm_same_slots i m m' p q calm t table.slots refl (λ s. made.there (place.Claim s) (λ e. cc)) counts)
     (record { counter = omega (arith, raised, was); words = λ k. made.there (place.Section k) (λ e. cc) ∙ table.sections.words k; seats = table.sections.seats })
     (made.there place.ResizeLock (λ e. cc) ∙ table.heads.owner)
-    (λ try. same_works i m m' p.now q.now refl refl (λ s at is. counts s))
+    (same_resize t m p f q.now table refl)
+    (λ try. absurd try)
+    (λ try. absurd try)
 
 -- a section that is opened or closed: the others stay
 section_seats : (i : ℕ) (m : Memory) (n n' : Now) (value : Option OpenSection) → n'.section ≡ with_at n.section i value → n'.resizing ≡ n.resizing
@@ -124,6 +155,7 @@ open_section_keeps number counter t m m' p f i text table inside sound backs mad
         (section_words t m m' p.now (calm_now p.now q.now) i (Some (record { place = p.now.place; counter = counter })) refl refl same made.here
         (λ k differ. made.there (place.Section k) (λ e. differ (cc))) inside table.sections)
         (made.there place.ResizeLock (λ e. cc) ∙ table.heads.owner)
+        (same_resize t m p f q.now table refl)
         (λ try. same_works i m m' p.now q.now refl refl (λ s at is. counts s))
 
 -- closing a section keeps the table
@@ -150,4 +182,5 @@ close_section_keeps number t m m' p f i text table inside sound backs made =
         (calm_same_slots i m m' p q calm t table.slots refl (λ s. made.there (place.Claim s) (λ e. cc)) counts)
         (section_words t m m' p.now (calm_now p.now q.now) i None refl refl same made.here (λ k differ. made.there (place.Section k) (λ e. differ (cc))) inside table.sections)
         (made.there place.ResizeLock (λ e. cc) ∙ table.heads.owner)
+        (same_resize t m p f q.now table refl)
         (λ try. same_works i m m' p.now q.now refl refl (λ s at is. counts s))

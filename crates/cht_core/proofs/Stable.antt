@@ -104,7 +104,12 @@ module _ (t : Table) (m : Memory) (p : Past) (f : Flow) (m' : Memory) (p' : Past
     walking_grows text hash row load first passed node h =
         let next : Rerouted p.now f m' p'.now f' h.searched.section.place text hash node h.ahead =
         g.walks.go i h.searched.section text hash node h.ahead h.searched.inside h.path h.searched.fit in
-        record { ahead = next.left; path = next.path; searched = ahead_grows text hash row load first passed h.ahead next.left h.searched next.fit next.kept next.fresh }
+        record {
+          ahead = next.left;
+          path = next.path;
+          searched = ahead_grows text hash row load first passed h.ahead next.left h.searched next.fit
+              (λ s on. elim (next.kept s on) [ inl stays ↦ inl stays | inr unwanted ↦ inr (unwanted h.searched.hashed) ]) next.fresh;
+        }
 
     -- what a slot was seen with, it was
     pub seen_grows : (s : ℕ) (P : List ℕ → Handle → Type 0) → IsSeen p.now i s P → IsSeen p'.now i s P

@@ -79,7 +79,8 @@ module _ (t : Table) (m : Memory) (p : Past) (f : Flow) (m' : Memory) (p' : Past
     find_grows hash walk find.LoadLevel h = inside_grows h
     find_grows hash walk find.LoadHead h = at_head_grows hash walk h
     find_grows hash walk find.LoadNewLevel h = (h.0, z.section ∙ h.1, g.onward i hash walk.row h.0 h.1 h.2)
-    find_grows hash walk find.LoadNewHead h = at_head_grows hash walk h
+    find_grows hash walk find.LoadNewHead h =
+        (h.0, z.section ∙ h.1, g.routes i hash walk.row h.0 h.1 h.2, h.3, (h.4.0, h.4.1, g.onward i hash h.4.0 h.0 h.1 h.4.2))
 
     -- a slot that the seat has claimed keeps its words
     pub claimed_grows : (h : Handle) → HasClaimed m p.now i h → HasClaimed m' p'.now i h

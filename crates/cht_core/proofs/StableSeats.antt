@@ -28,25 +28,25 @@ module _ (m : Memory) (p : Past) (f : Flow) (m' : Memory) (p' : Past) (f' : Flow
   own_grace_grows (Some r) h = grace_grows m p f m' p' f' g r h
 
   -- the work that a seat has, if it has one
-  pub own_work_grows : (t : Table) → IsTidy t p.now → (i : ℕ) → Leaves i m p f m' p' f' → (work : Option Work) → IfSome work (KnowsWork m p f i) → IfSome work (KnowsWork m' p' f' i)
-  own_work_grows t tidy i leaves None h = tt
-  own_work_grows t tidy i leaves (Some w) h = work_grows m p f m' p' f' g t tidy i leaves w h
+  pub own_work_grows : (t : Table) → IsTidy t p.now → IsTable t m' p' f' → (i : ℕ) → Leaves i m p f m' p' f' → (work : Option Work) → IfSome work (KnowsWork m p f i) → IfSome work (KnowsWork m' p' f' i)
+  own_work_grows t tidy table' i leaves None h = tt
+  own_work_grows t tidy table' i leaves (Some w) h = work_grows m p f m' p' f' g t tidy table' i leaves w h
 
   module _ (t : Table) (table : IsTable t m p f) (table' : IsTable t m' p' f') (i : ℕ) (seat : i < t.shape.seats) (z : Spares i m p f m' p' f') where
     of_seat_grows : (k : Machine) → IsOfSeat t p.now i k → IsOfSeat t p'.now i k
     of_seat_grows k h = record { shape = h.shape; kind = h.kind; seed = h.seed ∙ sym g.seed; number = h.number; bytes = h.bytes; sound = h.sound; single = h.single }
 
     own_grows : (own : Own) → KnowsOwn m p f i own → KnowsOwn m' p' f' i own
-    own_grows own h = (z.section ∙ h.0, own_work_grows t table.tidy i z.leaves own.work h.1, own_grace_grows own.grace h.2)
+    own_grows own h = (z.section ∙ h.0, own_work_grows t table.tidy table' i z.leaves own.work h.1, own_grace_grows own.grace h.2)
 
     machine_grows : (load : ℕ) (passed : List ℕ) (k : Machine) → IsOfSeat t p.now i k → KnowsMachine m p f i load passed k → KnowsMachine m' p' f' i load passed k
     machine_grows load passed (machine.Call c w r) of h = (
       call_grows t m p f m' p' f' table.tidy table' g i z load passed c.asked c.along of.kind seat c.stage h.0,
-      own_work_grows t table.tidy i z.leaves w h.1,
+      own_work_grows t table.tidy table' i z.leaves w h.1,
       own_grace_grows r h.2,
     )
-    machine_grows load passed (machine.Begin b) of h = (z.section ∙ h.0, begin_grows m p f m' p' f' g t table.tidy i z.leaves b.stage h.1)
-    machine_grows load passed (machine.Poll q) of h = (z.section ∙ h.0, own_work_grows t table.tidy i z.leaves (work_left q.work q.answer) h.1)
+    machine_grows load passed (machine.Begin b) of h = (z.section ∙ h.0, begin_grows m p f m' p' f' g t table.tidy table' i z.leaves b.stage h.1)
+    machine_grows load passed (machine.Poll q) of h = (z.section ∙ h.0, own_work_grows t table.tidy table' i z.leaves (work_left q.work q.answer) h.1)
     machine_grows load passed (machine.Sweep s) of h = sweep_grows m p f m' p' f' g t table.tidy table' i z s.asked s.along s.stage h
 
     -- what a seat knows still holds

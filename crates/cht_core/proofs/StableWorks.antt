@@ -30,14 +30,18 @@ use Rattle.call_machine.specs.declared.work.Work.{Work}
 use Rattle.call_machine.specs.declared.work.Work.TheVariants as work
 use Rattle.cht_core.specs.declared.table.Table.{Table}
 use Rattle.cht_core.specs.Flow.{Flow}
-use Rattle.cht_core.specs.KnowsWork.{Graced, KnowsGrace, IsWaiting, AreWaiting, KnowsWaiting, KnowsWaited, KnowsOver, IsRenewed, KnowsFree, Locked, LeadsTo, IsDead, IsAtNode}
+use Rattle.cht_core.specs.KnowsResize.{Graced, Resizing, NoHead}
+use Rattle.cht_core.specs.KnowsWork.{KnowsGrace, IsWaiting, AreWaiting, KnowsWaiting, KnowsWaited, KnowsOver, IsRenewed, KnowsFree, Locked, LeadsTo, IsDead, IsAtNode}
 use Rattle.cht_core.specs.KnowsWork.{KnowsPass, KnowsGracing, KnowsCleaning, KnowsWork, KnowsClosing, KnowsSweep, KnowsLeft, KnowsBegin}
 use Rattle.cht_core.specs.Memory.{Memory}
 use Rattle.cht_core.specs.Past.{Past}
-use Rattle.cht_core.specs.Rely.{Grows, Leaves, Spares}
+use Rattle.cht_core.specs.Rely.{Grows, Leaves, Spares, Still}
+use Rattle.cht_core.specs.Stage.{Stage, Quiet, IsPinned}
 use Rattle.cht_core.specs.TableState.{IsTable}
 use Rattle.cht_core.specs.Tidy.{IsTidy}
+use Rattle.cht_core.proofs.StableResize.{resize_grows}
 use Rattle.cht_core.proofs.StableCalls.{find_grows, at_head_grows}
+use Rattle.cht_core.proofs.Stages.{resizing_on}
 
 module _ (m : Memory) (p : Past) (f : Flow) (m' : Memory) (p' : Past) (f' : Flow) (g : Grows m p f m' p' f') where
   -- sections that are opened later are younger
@@ -68,7 +72,7 @@ module _ (m : Memory) (p : Past) (f : Flow) (m' : Memory) (p' : Past) (f' : Flow
   pub grace_grows : (grace : Grace) → KnowsGrace p.now grace → KnowsGrace p'.now grace
   grace_grows grace h = (h.0, graced_grows grace h.0 h.1)
 
-  module _ (t : Table) (tidy : IsTidy t p.now) (i : ℕ) (leaves : Leaves i m p f m' p' f') where
+  module _ (t : Table) (tidy : IsTidy t p.now) (table' : IsTable t m' p' f') (i : ℕ) (leaves : Leaves i m p f m' p' f') where
     waiting_one_grows : (by by' : ℕ) (x : Waiting) → by ≤ by' → IsWaiting m p i by x → IsWaiting m' p' i by' x
     waiting_one_grows by by' x less h =
         let before : h.0 < by = h.2 in
@@ -114,10 +118,27 @@ module _ (m : Memory) (p : Past) (f : Flow) (m' : Memory) (p' : Past) (f' : Flow
     free_grows xs (free.PutNextGeneration at) h = over_grows (drop at xs) h
     free_grows xs (free.FreeSlot at) h = (h.0, h.1, h.2, over_grows h.1 h.3, h.4, renewed_grows h.0 h.5)
 
+    -- what the owner of the resize lock knows
+    pub resizing_grows : (level : ℕ) (stage : Stage) (except : ℕ → ℕ → Type 0) → Resizing p.now f i level stage except → Resizing p'.now f' i level stage except
+    resizing_grows level stage except h =
+        let still : Still p.now f p'.now f' = leaves.still h.owner in
+        resizing_on p.now p'.now f f' i level stage except (leaves.owner h.owner) still.level still.stage still.free h
+
+    -- a head that the seat has locked is none of those that the owner of the resize lock has locked for nodes on two chains
+    unpinned_grows : (row bucket : ℕ) → p.now.lock row bucket ≡ Some i → ¬ (IsPinned f.stage p.now.level row bucket) → ¬ (IsPinned f'.stage p'.now.level row bucket)
+    unpinned_grows row bucket lock unpinned pinned =
+        let by = table'.heads.pinned row bucket pinned in
+        let mine : p'.now.lock row bucket ≡ Some i = leaves.locks row bucket lock in
+        let same : Some by.0 ≡ Some i = sym by.2 ∙ mine in
+        let owner : owner_of p'.now.resizing ≡ Some i = by.1 ∙ same in
+        let still : Still p.now f p'.now f' = leaves.still (leaves.owner_back owner) in
+        unpinned (subst (λ (st : Stage). IsPinned st p.now.level row bucket) still.stage (subst (λ (l : ℕ). IsPinned f'.stage l row bucket) still.level pinned))
+
     -- a bucket that the seat has locked
     pub locked_grows : (row bucket : ℕ) (first : Option ℕ) → Locked m p.now f i row bucket first → Locked m' p'.now f' i row bucket first
     locked_grows row bucket first h = record {
       used = leaves.used row bucket h.used h.lock;
+      unpinned = unpinned_grows row bucket h.lock h.unpinned;
       lock = leaves.locks row bucket h.lock;
       head = leaves.heads row bucket h.lock ∙ h.head;
     }
@@ -187,23 +208,26 @@ module _ (m : Memory) (p : Past) (f : Flow) (m' : Memory) (p' : Past) (f' : Flow
     cleaning_grows owner w (clean.Free freeing s) h = (level_grows owner w h.0, free_grows w.cleaning.waiting.items s h.1)
     cleaning_grows owner w clean.GiveResizeLock h = h
 
+    quiet_grows : Resizing p.now f i p.now.level Quiet NoHead → Resizing p'.now f' i p'.now.level Quiet NoHead
+    quiet_grows h = subst (λ (level : ℕ). Resizing p'.now f' i level Quiet NoHead) (sym (leaves.still h.owner).level) (resizing_grows p.now.level Quiet NoHead h)
+
     -- what a work knows
     pub work_grows : (w : Work) → KnowsWork m p f i w → KnowsWork m' p' f' i w
-    work_grows (work.Clean c) h = (leaves.owner h.0, cleaning_grows h.0 c.along c.stage h.1)
-    work_grows (work.Resize r) h = absurd h
+    work_grows (work.Clean c) h = (quiet_grows h.0, cleaning_grows h.0.owner c.along c.stage h.1)
+    work_grows (work.Resize r) h = resize_grows t m p f m' p' f' g tidy i leaves r.direction r.along r.stage h
 
-    left_grows : (l : Left) → KnowsLeft p.now i l → KnowsLeft p'.now i l
+    left_grows : (l : Left) → KnowsLeft p.now f i l → KnowsLeft p'.now f' i l
     left_grows left.Nothing h = tt
-    left_grows left.Clean h = leaves.owner h
-    left_grows (left.Resize d level) h = absurd h
+    left_grows left.Clean h = quiet_grows h
+    left_grows (left.Resize d level) h = resizing_grows level Quiet NoHead h
     left_grows (left.Grace grace) h = grace_grows grace h
 
     -- what a call that begins a work or a grace knows
-    pub begin_grows : (s : BeginStage) → KnowsBegin p.now i s → KnowsBegin p'.now i s
+    pub begin_grows : (s : BeginStage) → KnowsBegin p.now f i s → KnowsBegin p'.now f' i s
     begin_grows (begin.LoadCounter t) h = h
     begin_grows (begin.TakeResizeLock t) h = h
-    begin_grows (begin.LoadLevel d) h = absurd h
-    begin_grows (begin.GiveResizeLock a) h = absurd h
+    begin_grows (begin.LoadLevel d) h = quiet_grows h
+    begin_grows (begin.GiveResizeLock a) h = quiet_grows h
     begin_grows (begin.Grace r grace.RaiseCounter) h = tt
     begin_grows (begin.Grace r grace.LoadSection) h = grace_grows r h
     begin_grows (begin.Answered a l) h = left_grows l h
@@ -218,10 +242,10 @@ module _ (m : Memory) (p : Past) (f : Flow) (m' : Memory) (p' : Past) (f' : Flow
     sweep_grows q w sweep.Check h = z.section ∙ h
     sweep_grows q w (sweep.Find s) h = find_grows t m p f m' p' f' tidy table' g i z q.hash w.walk s h
     sweep_grows q w sweep.Lock h = (at_head_grows t m p f m' p' f' tidy table' g i z q.hash w.walk h.0, h.1, h.2)
-    sweep_grows q w (sweep.Close why) h = ((h.0.0, z.section ∙ h.0.1), closing_grows t tidy i z.leaves w.cleaning why h.1)
-    sweep_grows q w (sweep.Pass s) h = (z.section ∙ h.0, pass_grows t tidy i z.leaves w.cleaning s h.1, waiting_grows t tidy i z.leaves w.cleaning.waiting.items h.2)
+    sweep_grows q w (sweep.Close why) h = ((h.0.0, z.section ∙ h.0.1), closing_grows t tidy table' i z.leaves w.cleaning why h.1)
+    sweep_grows q w (sweep.Pass s) h = (z.section ∙ h.0, pass_grows t tidy table' i z.leaves w.cleaning s h.1, waiting_grows t tidy table' i z.leaves w.cleaning.waiting.items h.2)
     sweep_grows q w sweep.UnlockHead h =
-        (z.section ∙ h.0, locked_grows t tidy i z.leaves w.cleaning.row w.cleaning.bucket w.cleaning.first h.1, waiting_grows t tidy i z.leaves w.cleaning.waiting.items h.2)
-    sweep_grows q w (sweep.Grace s) h = (z.section ∙ h.0, gracing_grows t tidy i z.leaves w.cleaning.waiting.items w.grace s h.1)
-    sweep_grows q w (sweep.Free s) h = (z.section ∙ h.0, free_grows t tidy i z.leaves w.cleaning.waiting.items s h.1)
+        (z.section ∙ h.0, locked_grows t tidy table' i z.leaves w.cleaning.row w.cleaning.bucket w.cleaning.first h.1, waiting_grows t tidy table' i z.leaves w.cleaning.waiting.items h.2)
+    sweep_grows q w (sweep.Grace s) h = (z.section ∙ h.0, gracing_grows t tidy table' i z.leaves w.cleaning.waiting.items w.grace s h.1)
+    sweep_grows q w (sweep.Free s) h = (z.section ∙ h.0, free_grows t tidy table' i z.leaves w.cleaning.waiting.items s h.1)
     sweep_grows q w (sweep.Answered a) h = z.section ∙ h

@@ -23,10 +23,9 @@ use Rattle.cht_core.specs.declared.seat.Seat.{Seat}
 use Rattle.cht_core.specs.declared.seat.Seat.TheVariants as doing
 use Rattle.cht_core.specs.declared.state.Started.{Started}
 use Rattle.cht_core.specs.declared.table.Table.{Table}
-use Rattle.cht_core.specs.Begins.{MeetsLog, IsOfOneLevel, HasBytes}
+use Rattle.cht_core.specs.Begins.{MeetsLog, HasBytes}
 use Rattle.cht_core.specs.Invariant.{Inv, Moves}
 use Rattle.cht_core.specs.Memory.{Memory, memory_of}
-use Rattle.cht_core.specs.Past.{past_of}
 use Rattle.cht_core.specs.State.{Core, IsCore, IsGoing, HasResting, seat_in, view_of, views_of, at_rest, seat_after, with_seat, StartsAs, started_as, started_by, answer_by, kind_by, kind_next}
 use Rattle.cht_core.specs.View.{View, IsOwnOf}
 use Rattle.cht_core.proofs.Basics.{with_here, with_other}
@@ -154,7 +153,7 @@ module _ (c : Core) (core : IsCore c) (k : ℕ) (own : Own) (at : seat_in c.seat
   abbrev pub begins : Call → Machine
   begins asked = started c.table.kind c.table.shape c.seed own asked
 
-  module _ (asked : Call) (bytes : HasBytes asked) (may : MayStart c.table.kind c.table.shape own asked) (level : IsOfOneLevel asked)
+  module _ (asked : Call) (bytes : HasBytes asked) (may : MayStart c.table.kind c.table.shape own asked)
       (meets : MeetsLog c.table.kind c.log (own.number ∷ []) asked) where
     moved : Moves (views_of core.sights c.seats) (views_of (with_at core.sights k ((core.sights k).0, [])) (set c.seats k (Some (doing.Running (begins asked))))) k
         (view_at ((core.sights k).0, []) k (doing.Running (begins asked)))
@@ -164,7 +163,7 @@ module _ (c : Core) (core : IsCore c) (k : ℕ) (own : Own) (at : seat_in c.seat
     running =
         may_begin c.table (memory_of c.table.shape c.words) (views_of core.sights c.seats) (views_of (with_at core.sights k ((core.sights k).0, []))
         (set c.seats k (Some (doing.Running (begins asked))))) c.log k
-        (view_at (core.sights k) k (doing.Idle own)) own asked core.inv (view_is core.sights c.seats k (doing.Idle own) at) refl may level bytes
+        (view_at (core.sights k) k (doing.Idle own)) own asked core.inv (view_is core.sights c.seats k (doing.Idle own) at) refl may bytes
         (subst (λ n. MeetsLog c.table.kind c.log (n ∷ []) asked) known.number meets)
         (subst (λ seed. Moves (views_of core.sights c.seats) (views_of (with_at core.sights k ((core.sights k).0, [])) (set c.seats k (Some (doing.Running (begins asked))))) k
         (view_at ((core.sights k).0, []) k (doing.Running (started c.table.kind c.table.shape seed own asked)))) core.seed moved)
@@ -182,8 +181,7 @@ module _ (c : Core) (core : IsCore c) (k : ℕ) (own : Own) (at : seat_in c.seat
         drawn = drawn_still c.table.shape.seats c.seats (word_at c.table.shape place.Draws c.words) k (doing.Idle own) (seat_after (begins asked)) idle_below at core.drawn;
         told = core.told;
         rests = all_are HasResting c.seats k (seat_after (begins asked)) idle_below core.rests
-            (rests_after (memory_of c.table.shape c.words) (past_of c.table.shape.min_level c.log) running.flow k (core.sights k).0 [] (begins asked)
-            (running.knows k (view_at ((core.sights k).0, []) k (doing.Running (begins asked))) moved.own).1 (rests_begun c.table c.seed own asked (core.rests k (doing.Idle own) at)));
+            (rests_after (begins asked) (rests_begun c.table c.seed own asked (core.rests k (doing.Idle own) at)));
       };
       own = (with_here core.sights k ((core.sights k).0, []) k refl, seat_same c.seats k (Some (seat_after (begins asked))) idle_below);
       other = λ i u differ is. (with_other core.sights k ((core.sights k).0, []) i differ, seat_other c.seats k i (Some (seat_after (begins asked))) differ ∙ is);
@@ -196,7 +194,7 @@ module _ (c : Core) (core : IsCore c) (k : ℕ) (own : Own) (at : seat_in c.seat
     pub started_as_said : (said : Started) (new : Core) → said ≡ started_as (plan_of (begins asked)) → new ≡ with_seat c k (seat_after (begins asked))
         → StartsAs c k asked (seat_in c.seats k) said new
     started_as_said said new says is = subst (λ (s : Option Seat). StartsAs c k asked s said new) (sym at) (inl (record {
-      can = record { may = may; level = level; log = meets };
+      can = record { may = may; log = meets };
       answer = says;
       state = is;
     }))
@@ -204,7 +202,7 @@ module _ (c : Core) (core : IsCore c) (k : ℕ) (own : Own) (at : seat_in c.seat
 -- the same over what was read and written on the way
 module _ (c : Core) (core : IsCore c) (k : ℕ) (own own' : Own) (at : seat_in c.seats k ≡ Some (doing.Idle own)) (at' : seat_in c.seats k ≡ Some (doing.Idle own')) (asked : Call)
     (log : List Event) (is_log : log ≡ c.log)
-    (bytes : HasBytes asked) (can : MayStart c.table.kind c.table.shape own asked × IsOfOneLevel asked × MeetsLog c.table.kind log (own.number ∷ []) asked) (taken : Option Seat)
+    (bytes : HasBytes asked) (can : MayStart c.table.kind c.table.shape own asked × MeetsLog c.table.kind log (own.number ∷ []) asked) (taken : Option Seat)
     (next : Seat) (answer : Option Answer)
     (is_next : next ≡ seat_after (started c.table.kind c.table.shape c.seed own' asked)) (is_answer : answer ≡ answer_by (plan_of (started c.table.kind c.table.shape c.seed own' asked))) where
   same_own : own' ≡ own
@@ -215,11 +213,11 @@ module _ (c : Core) (core : IsCore c) (k : ℕ) (own own' : Own) (at : seat_in c
       (set-set c.seats k taken (Some next) ∙ ap (λ (s : Seat). set c.seats k (Some s)) (is_next ∙ ap (λ (o : Own). seat_after (started c.table.kind c.table.shape c.seed o asked)) same_own))
 
   meets : MeetsLog c.table.kind c.log (own.number ∷ []) asked
-  meets = subst (λ (l : List Event). MeetsLog c.table.kind l (own.number ∷ []) asked) is_log can.2
+  meets = subst (λ (l : List Event). MeetsLog c.table.kind l (own.number ∷ []) asked) is_log can.1
 
   pub start_core : IsCore (record c { seats = set (set c.seats k taken) k (Some next) })
-  start_core = subst IsCore (sym new_state) (started_core c core k own at asked bytes can.0 can.1 meets)
+  start_core = subst IsCore (sym new_state) (started_core c core k own at asked bytes can.0 meets)
 
   pub start_said : (said : Started) → said ≡ started_by answer → StartsAs c k asked (seat_in c.seats k) said (record c { seats = set (set c.seats k taken) k (Some next) })
-  start_said said says = started_as_said c core k own at asked bytes can.0 can.1 meets said (record c { seats = set (set c.seats k taken) k (Some next) })
+  start_said said says = started_as_said c core k own at asked bytes can.0 meets said (record c { seats = set (set c.seats k taken) k (Some next) })
       (says ∙ ap started_by (is_answer ∙ ap (λ (o : Own). answer_by (plan_of (started c.table.kind c.table.shape c.seed o asked))) same_own)) new_state

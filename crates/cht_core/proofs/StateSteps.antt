@@ -290,8 +290,7 @@ module _ (law : StepLaw) (fit : FitLaw) (c : Core) (core : IsCore c) (k : ℕ) (
     going = all_are IsGoing c.seats k (seat_after (got_of machine word)) below core.going (goes_after (got_of machine word));
     drawn = drawn_still c.table.shape.seats c.seats (word_at c.table.shape place.Draws c.words) k (doing.Running machine) (seat_after (got_of machine word)) below at core.drawn;
     rests = all_are HasResting c.seats k (seat_after (got_of machine word)) below core.rests
-        (rests_after m' (past_of c.table.shape.min_level log') running.flow k sight.0 sight.1 (got_of machine word)
-        (running.knows k (view_at sight k (doing.Running (got_of machine word))) moves.own).1 (rests_on machine word (core.rests k (doing.Running machine) at)));
+        (rests_after (got_of machine word) (rests_on machine word (core.rests k (doing.Running machine) at)));
   }
 
   more : AreMore c.table m' log' (set c.seats k (Some (seat_after (got_of machine word)))) (after_step c k machine s word).seats rested.sights (m' place.Draws)

@@ -4,12 +4,18 @@ use Rattle.atomic_step.specs.declared.step.Step.TheVariants as step
 use Rattle.cht_core.specs.Backs.{KeepsTable}
 use Rattle.cht_core.proofs.CountSteps.{see_entry_keeps, see_handle_keeps, take_entry_keeps, change_entry_keeps}
 use Rattle.cht_core.proofs.Creates.{create_entry_keeps}
+use Rattle.cht_core.proofs.EndsUnzip.{unlock_head_keeps}
 use Rattle.cht_core.proofs.Loads.{load_draws_keeps, load_counter_keeps, load_level_keeps, load_new_level_keeps, load_head_keeps, load_link_keeps, load_meta_keeps, load_text_keeps, load_count_keeps, load_section_keeps}
-use Rattle.cht_core.proofs.Loads.{put_head_keeps, put_new_level_keeps, redirect_head_keeps, move_edge_keeps, store_level_keeps, join_chains_keeps}
-use Rattle.cht_core.proofs.Locking.{lock_head_keeps, unlock_head_keeps}
+use Rattle.cht_core.proofs.Joins.{join_chains_keeps}
+use Rattle.cht_core.proofs.Locking.{lock_head_keeps}
 use Rattle.cht_core.proofs.LockSteps.{take_resize_lock_keeps, give_resize_lock_keeps}
+use Rattle.cht_core.proofs.MoveSteps.{move_edge_keeps}
+use Rattle.cht_core.proofs.NewLevels.{put_new_level_keeps}
+use Rattle.cht_core.proofs.PutHeads.{put_head_keeps}
+use Rattle.cht_core.proofs.Redirects.{redirect_head_keeps}
 use Rattle.cht_core.proofs.SectionSteps.{draw_keeps, raise_counter_keeps, open_section_keeps, close_section_keeps}
 use Rattle.cht_core.proofs.SlotSteps.{put_meta_keeps, put_text_keeps, put_link_keeps, put_count_keeps, put_next_generation_keeps, claim_slot_keeps, free_slot_keeps}
+use Rattle.cht_core.proofs.StoreLevels.{store_level_keeps}
 use Rattle.cht_core.proofs.Unlinking.{unlink_keeps}
 
 -- a step that the table backs keeps it

@@ -26,8 +26,8 @@ abbrev pub past_by : Past → ℕ → List ℕ → Step → Memory → Past
 past_by p i text s m = told p i (event_of text s (found s m))
 
 -- the flow after it
-abbrev pub flow_of : Flow → ℕ → List ℕ → Step → Memory → Flow
-flow_of f i text s m = flow_after f i text s (found s m)
+abbrev pub flow_of : Past → Flow → ℕ → List ℕ → Step → Memory → Flow
+flow_of p f i text s m = flow_after p.now f i text s (found s m)
 
 -- so it is where the outcome is put into a larger whole
 pub if_turned : {S T : Type 0} (P : Step → (ℕ → T) → Type 0) (F : S → T) (t : T) (turn : Turn S) (made : Step)

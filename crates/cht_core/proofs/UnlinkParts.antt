@@ -14,20 +14,24 @@ use Rattle.intern_log.specs.TextMap.{TextMap, entry_of, IsLive}
 use Rattle.atomic_step.specs.Count.{generation_of, holds_of, holds_word}
 use Rattle.cht_core.specs.declared.table.Table.{Table}
 use Rattle.cht_core.specs.Chains.{Chains, born, birth}
-use Rattle.cht_core.specs.Flow.{Flow, IsUsed}
+use Rattle.cht_core.specs.Flow.{Flow, IsUsed, IsHome}
 use Rattle.cht_core.specs.Heads.{Heads, Sections, used_head}
 use Rattle.cht_core.specs.Memory.{Memory, links}
 use Rattle.cht_core.specs.Past.{Past}
 use Rattle.cht_core.specs.Rely.{Grows, Spares, IsUnwanted}
 use Rattle.cht_core.specs.Search.{IsFit, IsHeld}
 use Rattle.cht_core.specs.Slots.{Slots, IsPast, IsLastOf, claim_word, count_in}
+use Rattle.cht_core.specs.Stage.{bucket_in, IsOnTwo, IsPinned}
 use Rattle.cht_core.specs.TableState.{IsTable, Words}
 use Rattle.cht_core.specs.Tidy.{IsTidy}
 use Rattle.cht_core.proofs.Basics.{with_here, with_other}
 use Rattle.cht_core.proofs.Buckets.{bucket_cases}
-use Rattle.cht_core.proofs.CalmParts.{path_kept, ranked_kept}
+use Rattle.cht_core.proofs.CalmParts.{path_kept, ranked_kept, clear_kept}
 use Rattle.cht_core.proofs.Counts.{counted_has}
 use Rattle.cht_core.proofs.Relinks.{Relinked}
+use Rattle.cht_core.proofs.Routes.{behind_unused}
+use Rattle.cht_core.proofs.Stages.{comes_one}
+use Rattle.cht_core.proofs.TwoChains.{on_one, used_comes, unzipped_two, mixed_two}
 use Rattle.cht_core.proofs.Withouts.{on_within, on_without, once_without, ranked_without}
 
 -- a handle whose entry is gone is counted nowhere
@@ -40,7 +44,7 @@ dead_has_none texts text h dead = elim (cases_eq (count_in (entry_of texts text)
 -- A dead slot of a locked bucket is out of its chain.
 module _ (t : Table) (m m' : Memory) (p : Past) (f : Flow) (i row bucket slot : ℕ) (first : Option ℕ) (table : IsTable t m p f) (used : IsUsed p.now f row bucket)
     (lock : p.now.lock row bucket ≡ Some i) (on : On slot (f.chain row bucket)) (text : List ℕ) (h : Handle) (since : ℕ) (at : p.now.slot slot ≡ Linked text h since)
-    (dead : ¬ (IsLive p.now.texts h)) (z : Relinked m m' f row bucket slot first) where
+    (dead : ¬ (IsLive p.now.texts h)) (z : Relinked m m' f row bucket slot first) (unpinned : ¬ (IsPinned f.stage p.now.level row bucket)) where
   -- what the log says then, and the chains
   unfoldable pub unlink_past : Past
   unlink_past = record {
@@ -72,15 +76,25 @@ module _ (t : Table) (m m' : Memory) (p : Past) (f : Flow) (i row bucket slot : 
   pub unlinked_stays : (s : ℕ) (phase : Phase) → p.now.slot s ≡ phase → ((other : List ℕ) (k : Handle) (made : ℕ) → phase ≡ Linked other k made → ⊥) → unlink_past.now.slot s ≡ phase
   unlinked_stays s phase is unlinked = slot_stays s (λ same. unlinked text h since (sym is ∙ ap p.now.slot same ∙ at)) ∙ is
 
+  -- a text that is on one chain is on that of its bucket
+  home_exact : (r b hash : ℕ) → (IsOnTwo f.stage p.now.level hash → ⊥) → IsHome p.now f r b hash → bucket_in r hash ≡ b
+  home_exact r b hash single home = elim home [ inl exact ↦ exact | inr mixed ↦ absurd (single (mixed_two f.stage p.now.level r b hash mixed)) ]
+
   -- a node is on one chain
   pub one_chain : (r b s : ℕ) → IsUsed p.now f r b → On s (f.chain r b) → On s (f.chain row bucket) → (r ≡ row) × (b ≡ bucket)
   one_chain r b s at there here =
-      let one = table.chains.on_linked r b s at there in
-      let two = table.chains.on_linked row bucket s used here in
+      let one : (u : List ℕ) × (k : Handle) × (made : ℕ) × (p.now.slot s ≡ Linked u k made) × IsHome p.now f r b (hash_of p.now.seed u) = table.chains.on_linked r b s at there in
+      let two : (u : List ℕ) × (k : Handle) × (made : ℕ) × (p.now.slot s ≡ Linked u k made) × IsHome p.now f row bucket (hash_of p.now.seed u) = table.chains.on_linked row bucket s used here in
       let same : Linked one.0 one.1 one.2 ≡ Linked two.0 two.1 two.2 = sym one.3 ∙ two.3 in
       let texts : one.0 ≡ two.0 = cc in
-      let rows : r ≡ row = at.0 ∙ sym used.0 in
-      (rows, sym one.4 ∙ ap (λ (x : List ℕ). hash_of p.now.seed x % 2 ^ r) texts ∙ ap (λ (x : ℕ). hash_of p.now.seed two.0 % 2 ^ x) rows ∙ two.4)
+      let single : IsOnTwo f.stage p.now.level (hash_of p.now.seed two.0) → ⊥ = on_one p.now f table.chains row bucket s two.0 two.1 two.2 used here two.3 unpinned in
+      let home : IsHome p.now f r b (hash_of p.now.seed two.0) = subst (λ (u : List ℕ). IsHome p.now f r b (hash_of p.now.seed u)) texts one.4 in
+      let first_home : bucket_in r (hash_of p.now.seed two.0) ≡ b = home_exact r b (hash_of p.now.seed two.0) single home in
+      let other_home : bucket_in row (hash_of p.now.seed two.0) ≡ bucket = home_exact row bucket (hash_of p.now.seed two.0) single two.4 in
+      let rows : r ≡ row = comes_one p.now f (hash_of p.now.seed two.0) r row
+      (used_comes p.now f (hash_of p.now.seed two.0) r b table.chains.within single at first_home)
+      (used_comes p.now f (hash_of p.now.seed two.0) row bucket table.chains.within single used other_home) in
+      (rows, sym first_home ∙ ap (λ (x : ℕ). bucket_in x (hash_of p.now.seed two.0)) rows ∙ other_home)
 
   -- a node of another chain is off this one
   pub off_chain : (r b s : ℕ) → IsUsed p.now f r b → (r ≡ row → b ≡ bucket → ⊥) → On s (f.chain r b) → On s (f.chain row bucket) → ⊥
@@ -106,10 +120,29 @@ module _ (t : Table) (m m' : Memory) (p : Past) (f : Flow) (i row bucket slot : 
         let was = linked_before s other k made linked in
         on_without slot s (f.chain r (hash_of p.now.seed other % 2 ^ r)) (table.chains.linked_on s other k made r was.1 comes) was.0;
     once = λ r b at. once_without slot (f.chain r b) (table.chains.once r b at);
-    ranked = λ r b at. ranked_kept (f.base r b) (born p.now.slot) (born unlink_past.now.slot) (without slot (f.chain r b))
-        (λ s there. ap birth (slot_stays s (on_within slot s (f.chain r b) there).1)) (ranked_without (f.base r b) (born p.now.slot) slot (f.chain r b) (table.chains.ranked r b at));
+    ranked = λ r b at. elim (table.chains.ranked r b at) [
+      | inl joined ↦ inl joined
+      | inr ranked ↦ inr (ranked_kept (f.base r b) (born p.now.slot) (born unlink_past.now.slot) (without slot (f.chain r b))
+          (λ s there. ap birth (slot_stays s (on_within slot s (f.chain r b) there).1)) (ranked_without (f.base r b) (born p.now.slot) slot (f.chain r b) ranked))
+    ];
     bases = λ r b. let before = table.chains.bases r b in omega (arith, before);
+    sides = λ r b s other k made at there linked. table.chains.sides r b s other k made at (on_within slot s (f.chain r b) there).0 (linked_before s other k made linked).1;
+    loose = λ s. elim (table.chains.loose s) [
+      | inl whole ↦ inl whole
+      | inr l ↦ inr (
+        l.0,
+        l.1,
+        l.2,
+        slot_stays s (λ same. on_one p.now f table.chains row bucket slot l.0 l.1 l.2 used on (ap p.now.slot (sym same) ∙ l.3) unpinned
+            (unzipped_two f.stage p.now.level (hash_of p.now.seed l.0) l.4)) ∙ l.3,
+        l.4,
+      )
+    ];
+    within = table.chains.within;
   }
+
+  used_at : (r b : ℕ) → r ≡ row → b ≡ bucket → IsUsed p.now f r b
+  used_at r b rows buckets = subst (λ (x : ℕ). IsUsed p.now f x b) (sym rows) (subst (IsUsed p.now f row) (sym buckets) used)
 
   unlink_heads : Heads m' unlink_past.now unlink_flow
   unfolding unlink_past unlink_flow
@@ -132,7 +165,11 @@ module _ (t : Table) (m m' : Memory) (p : Past) (f : Flow) (i row bucket slot : 
                 (path_kept (links m) (links m') along.0 (f.chain r b) (λ s there. ap node_of (z.elsewhere s (off_chain r b s at differ there))) along.2),
           ))
     ];
+    behind = λ r b left. let word = table.heads.behind r b left in
+        (word.0, z.heads r b (λ rows buckets. behind_unused m p.now f r b table.heads left (used_at r b rows buckets)) ∙ word.1);
     held = table.heads.held;
+    gone = table.heads.gone;
+    pinned = table.heads.pinned;
   }
 
   claim_stays : (s : ℕ) → claim_word (p.now.slot s) ≡ claim_word (unlink_past.now.slot s)
@@ -190,6 +227,11 @@ module _ (t : Table) (m m' : Memory) (p : Past) (f : Flow) (i row bucket slot : 
     sections = unlink_sections;
     heads = unlink_heads;
     chains = unlink_chains;
+    clear = clear_kept f.stage p.now unlink_past.now refl table.tidy.since (λ k o is. inl is) table.clear;
+    idle = table.idle;
+    whole = table.whole;
+    row = table.row;
+    named = table.named;
     ledger = table.ledger;
   }
 
@@ -207,6 +249,7 @@ module _ (t : Table) (m m' : Memory) (p : Past) (f : Flow) (i row bucket slot : 
   fit_since k hash s o inside fit = record {
     held = held_since k s o inside fit.held;
     near = λ other j made linked. fit.near other j made (linked_before s other j made linked).1;
+    side = λ other j made linked. fit.side other j made (linked_before s other j made linked).1;
   }
 
   -- no text wants the slot
@@ -238,7 +281,7 @@ module _ (t : Table) (m m' : Memory) (p : Past) (f : Flow) (i row bucket slot : 
         left = past.left;
         path = past.path;
         fit = λ s there. fit_since k hash s o inside (fit s (past.fresh s there));
-        kept = λ s there. elim (past.kept s there) [ inl stays ↦ inl stays | inr same ↦ inr (unwanted other s same) ];
+        kept = λ s there. elim (past.kept s there) [ inl stays ↦ inl stays | inr same ↦ inr (λ hashed. unwanted other s same) ];
         fresh = λ s there. inl (past.fresh s there);
       };
     };
@@ -279,7 +322,7 @@ module _ (t : Table) (m m' : Memory) (p : Past) (f : Flow) (i row bucket slot : 
       counts = λ s when unlinked. z.others (place.Count s) tt;
       owner = λ own. own;
       owner_back = λ own. own;
-      still = λ own. record { level = refl; since = refl };
+      still = λ own. record { level = refl; since = refl; stage = refl; before = refl; parted = λ s. refl; free = λ r b unused none. none };
     };
   }
     where

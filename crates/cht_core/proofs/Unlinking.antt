@@ -1,15 +1,11 @@
 -- A dead slot is unlinked.
-use Rattle.std.proofs.Common.{◌≡◌, ℕ, ◌-◌, ◌<◌, ◌≤◌, ◌^◌, Option, Some, None, sym, subst, arith}
-use Rattle.marked_word.specs.Link.{link_word}
-use Rattle.table_shape.specs.declared.shape.Shape.{Shape}
+use Rattle.std.proofs.Common.{◌≡◌, ℕ, ◌-◌, ◌≤◌, ◌^◌, Option, Some, sym, subst, arith}
 use Rattle.table_shape.specs.declared.place.Place.TheVariants as place
 use Rattle.intern_log.specs.declared.event.What.TheVariants as what
 use Rattle.intern_log.specs.Lawful.{IsLinkedDead}
 use Rattle.atomic_step.specs.declared.step.Edge.{Edge}
 use Rattle.atomic_step.specs.declared.step.Edge.TheVariants as edge
 use Rattle.atomic_step.specs.declared.step.Step.TheVariants as step
-use Rattle.atomic_step.specs.SoundStep.{IsNode}
-use Rattle.atomic_step.specs.Step.{edge_place, edge_word}
 use Rattle.call_machine.proofs.Nodes.{few_slots}
 use Rattle.cht_core.specs.Backs.{KeepsTable, LeadsFrom}
 use Rattle.cht_core.specs.Flow.{Flow, IsUsed}
@@ -17,6 +13,7 @@ use Rattle.cht_core.specs.KnowsWork.{Locked}
 use Rattle.cht_core.specs.Memory.{Memory}
 use Rattle.cht_core.specs.TableState.{Words}
 use Rattle.intern_log.specs.Now.{Now}
+use Rattle.cht_core.proofs.EdgeWords.{small_edge, not_counter}
 use Rattle.cht_core.proofs.Relinks.{relinked}
 use Rattle.cht_core.proofs.TidyKept.{tidy_told}
 use Rattle.cht_core.proofs.UnlinkParts.{unlink_past, unlink_flow, unlink_table, unlink_grows, unlink_spares}
@@ -26,19 +23,6 @@ use Rattle.cht_core.proofs.WordsKept.{words_kept}
 pub leads_locked : (m : Memory) (n : Now) (f : Flow) (i row bucket s : ℕ) (from : Edge) → LeadsFrom m n f i row bucket from s → (first : Option ℕ) × Locked m n f i row bucket first
 leads_locked m n f i row bucket s (edge.Head r b) leads = (Some s, leads.2)
 leads_locked m n f i row bucket s (edge.Link last) leads = leads.0
-
--- the word of an edge to a node of the table is small
-small_link : (shape : Shape) (next : Option ℕ) → IsNode shape next → link_word next ≤ shape.slots
-small_link shape None node = omega arith
-small_link shape (Some s) node = omega (arith, node)
-
-small_edge : (shape : Shape) (from : Edge) (next : Option ℕ) → shape.slots < 4294967295 → IsNode shape next → edge_word from next < 2 ^ 64
-small_edge shape (edge.Head r b) next few node = let small = small_link shape next node in omega (arith, few, small)
-small_edge shape (edge.Link last) next few node = let small = small_link shape next node in omega (arith, few, small)
-
-not_counter : (from : Edge) → place.Counter ≡ edge_place from → ⊥
-not_counter (edge.Head r b) same = cc
-not_counter (edge.Link last) same = cc
 
 -- a seat unlinks a dead slot of a bucket that it has locked
 pub unlink_keeps : (slot : ℕ) (from : Edge) (next : Option ℕ) → KeepsTable (step.Unlink slot from next)
@@ -59,8 +43,8 @@ unlink_keeps slot from next t m m' p f i text table inside sound backs made =
     let words : Words t m' = words_kept t m m' i (step.Unlink slot from next) table.words inside sound made (small_edge t.shape from next few sound.2.1) (omega arith) in
     record {
       told = may;
-      table = unlink_table t m m' p f i row bucket slot z.0 table used lock backs.on dead.0 dead.1 dead.2 dead.3 dead.5 z.1 tidy words;
-      grows = unlink_grows t m m' p f i row bucket slot z.0 table used lock backs.on dead.0 dead.1 dead.2 dead.3 dead.5 z.1;
-      spares = λ k differ. unlink_spares t m m' p f i row bucket slot z.0 table used lock backs.on dead.0 dead.1 dead.2 dead.3 dead.5 z.1 k differ;
+      table = unlink_table t m m' p f i row bucket slot z.0 table used lock backs.on dead.0 dead.1 dead.2 dead.3 dead.5 z.1 locked.1.unpinned tidy words;
+      grows = unlink_grows t m m' p f i row bucket slot z.0 table used lock backs.on dead.0 dead.1 dead.2 dead.3 dead.5 z.1 locked.1.unpinned;
+      spares = λ k differ. unlink_spares t m m' p f i row bucket slot z.0 table used lock backs.on dead.0 dead.1 dead.2 dead.3 dead.5 z.1 locked.1.unpinned k differ;
       leaves = λ try. absurd try;
     }

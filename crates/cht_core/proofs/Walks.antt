@@ -1,22 +1,27 @@
 -- A walk from its head to its end: how it begins, how it passes a node, and how few nodes it can pass.
-use Rattle.std.proofs.Common.{◌≡◌, ℕ, zero, suc, ◌^◌, ◌<◌, ◌≤◌, nat_lt, Bool, true, false, List, [], ◌∷◌, All, length, Option, Some, None, refl, sym, ap, subst}
+use Rattle.std.proofs.Common.{◌≡◌, ◌≢◌, ℕ, zero, suc, ◌+◌, ◌-◌, ◌<◌, ◌≤◌, nat_lt, Bool, true, false, List, [], ◌∷◌, All, length, Option, Some, None, refl, sym, ap, subst}
 use Rattle.std.proofs.Common.{◌∙◌, inl, inr, arith}
-use Rattle.std.proofs.Math.Nat.{mod-lt}
 use Rattle.std.proofs.lemmas.Bool.Decides.{nat_tests}
 use Rattle.chain_core.specs.Nodes.{On, Once}
 use Rattle.chain_core.specs.Path.{IsPath}
 use Rattle.chain_core.proofs.Members.{once_within}
 use Rattle.chain_core.proofs.Ways.{path_begins, path_once}
 use Rattle.text_words.specs.Hash.{hash_of}
+use Rattle.marked_word.specs.Head.{is_redirected, first_of}
+use Rattle.marked_word.specs.Number.{new_level_of, new_level_word}
 use Rattle.table_shape.specs.declared.place.Place.TheVariants as place
 use Rattle.intern_log.specs.Now.{OpenSection, Linked}
 use Rattle.cht_core.specs.declared.table.Table.{Table}
-use Rattle.cht_core.specs.Flow.{Flow, bucket_in, IsUsed}
+use Rattle.cht_core.specs.Flow.{Flow, IsUsed, ComesTo, IsHome}
+use Rattle.cht_core.specs.Stage.{Stage, Closing, Parted, bucket_in, next_row, named_level, IsLeft, IsBehind, IsSent, IsSpared}
 use Rattle.cht_core.specs.Memory.{Memory, links}
 use Rattle.cht_core.specs.Past.{Past}
-use Rattle.cht_core.specs.Search.{IsHeld, IsFit, IsRouted, IsAnchor, IsLate, IsNoMatch, Searched, Walking}
+use Rattle.cht_core.specs.Search.{IsHeld, IsFit, IsRouted, IsSentOn, IsAnchor, IsLate, IsNoMatch, Searched, Walking}
 use Rattle.cht_core.specs.Slots.{claim_word}
 use Rattle.cht_core.specs.TableState.{IsTable}
+use Rattle.cht_core.proofs.Routes.{lands_at, behind_unused}
+use Rattle.cht_core.proofs.Stages.{old_is_closing, sent_named, next_is_another, comes_used, home_near, row_up}
+use Rattle.cht_core.proofs.WalkWords.{head_first, head_plain}
 
 -- what holds of each node of a list
 all_from_on : (P : ℕ → Type 0) (xs : List ℕ) → ((s : ℕ) → On s xs → P s) → All P xs
@@ -52,20 +57,74 @@ module _ (t : Table) (m : Memory) (p : Past) (f : Flow) (table : IsTable t m p f
   pub few_held : (since : ℕ) (nodes : List ℕ) → Once nodes → ((s : ℕ) → On s nodes → IsHeld p.now since s) → length nodes ≤ t.shape.slots
   few_held since nodes once held = once_within t.shape.slots nodes once (all_from_on (λ s. s < t.shape.slots) nodes (λ s on. held_inside since s (held s on)))
 
-  -- the head of a row to which a seat was sent is one to which callers come
-  pub routed_used : (since hash row bucket : ℕ) → IsRouted p.now f since hash row → bucket ≡ bucket_in row hash → IsUsed p.now f row bucket
-  routed_used since hash row bucket routed at = (routed, subst (λ (b : ℕ). b < 2 ^ row) (sym at) (mod-lt hash (positive row)))
+  -- what the head to which callers come says: it is not redirected, and its path is the chain of the bucket
+  pub comes_head : (hash row : ℕ) → ComesTo p.now f hash row
+      → (is_redirected (m (place.Head row (bucket_in row hash))) ≡ false) × IsPath (links m) (first_of (m (place.Head row (bucket_in row hash)))) (f.chain row (bucket_in row hash))
+  comes_head hash row to =
+      let (first, word, path) = table.heads.paths row (bucket_in row hash) (comes_used p.now f hash row table.chains.within to) in (
+        ap is_redirected word ∙ head_plain first (p.now.lock row (bucket_in row hash)),
+        subst (λ (node : Option ℕ). IsPath (links m) node (f.chain row (bucket_in row hash))) (sym (ap first_of word ∙ head_first first (p.now.lock row (bucket_in row hash)))) path,
+      )
+
+  -- where the head of a row to which a seat was sent is redirected, the seat is sent on
+  pub redirected_on : (i : ℕ) (o : OpenSection) (hash row : ℕ) → p.now.section i ≡ Some o → IsRouted p.now f o.place hash row → is_redirected (m (place.Head row (bucket_in row hash))) ≡ true
+      → IsSentOn p.now f o.place hash row
+  redirected_on i o hash row inside routed redirected = elim (lands_at t m p f i hash row o table inside routed) [
+    | inl to ↦ absurd (let clash : false ≡ true = sym (comes_head hash row to).0 ∙ redirected in cc)
+    | inr on ↦ on.0
+  ]
+
+  -- the row before is another than that of the level, while it is left
+  before_is_another : f.stage ≡ Closing → f.before ≢ p.now.level
+  before_is_another closing same =
+      let behind : IsBehind f.stage p.now.level f.before p.now.level 0 =
+      subst (λ (st : Stage). IsBehind st p.now.level f.before p.now.level 0) (sym closing) (sym same, row_up p.now.level) in
+      behind_unused m p.now f p.now.level 0 table.heads behind (inl (refl, subst (λ (st : Stage). IsLeft st 0) (sym closing) tt, row_up p.now.level))
+
+  -- a seat that is sent on from a row is sent to the named level, which is another
+  pub sent_to : (i : ℕ) (o : OpenSection) (hash row : ℕ) → p.now.section i ≡ Some o → IsSentOn p.now f o.place hash row
+      → (level : ℕ) × (named_level f.stage p.now.level ≡ Some level) × (row ≢ level) × IsRouted p.now f o.place hash level
+  sent_to i o hash row inside on = elim on [
+    | inl here ↦ (
+      next_row f.stage p.now.level,
+      sent_named f.stage p.now.level hash here.1,
+      λ same. next_is_another f.stage p.now.level hash table.chains.within here.1 (sym here.0 ∙ same),
+      inr (inl (refl, here.1)),
+    )
+    | inr old ↦
+        let closing : f.stage ≡ Closing = old_is_closing f.stage p.now i o table.clear inside old.1 in
+        (p.now.level, ap (λ (st : Stage). named_level st p.now.level) closing, λ same. before_is_another closing (sym old.0 ∙ same), inl refl)
+  ]
+
+  -- the new-level word says the named level
+  pub new_level_says : (level : ℕ) → named_level f.stage p.now.level ≡ Some level → new_level_of (m place.NewLevel) ≡ level
+  new_level_says level is = ap new_level_of (table.heads.new_level ∙ ap new_level_word is) ∙ back level
     where
-      positive : (n : ℕ) → 0 < 2 ^ n
-      positive zero = omega arith
-      positive (suc n) = let half : 0 < 2 ^ n = positive n in omega (arith, half)
+      back : (k : ℕ) → (k + 1) - 1 ≡ k
+      back k = omega arith
+
+  -- to the head of a row to which a seat was sent on callers come
+  pub new_comes : (i : ℕ) (o : OpenSection) (hash old row : ℕ) → p.now.section i ≡ Some o → IsRouted p.now f o.place hash row → old ≢ row → IsSentOn p.now f o.place hash old → ComesTo p.now f hash row
+  new_comes i o hash old row inside routed another on = elim (lands_at t m p f i hash row o table inside routed) [
+    | inl to ↦ to
+    | inr again ↦ elim on [
+      | inl here ↦ elim again.0 [
+        | inl same ↦ absurd (another (here.0 ∙ sym same.0))
+        | inr before ↦ absurd (subst (λ (st : Stage). IsSent st p.now.level hash) (old_is_closing f.stage p.now i o table.clear inside before.1) here.1)
+      ]
+      | inr before ↦ elim again.0 [
+        | inl here ↦ absurd (subst (λ (st : Stage). IsSent st p.now.level hash) (old_is_closing f.stage p.now i o table.clear inside before.1) here.1)
+        | inr same ↦ absurd (another (before.0 ∙ sym same.0))
+      ]
+    ]
+  ]
 
   -- a walk begins with the chain of its head, as the head is loaded
   pub begins_walk : (i : ℕ) (o : OpenSection) (text : List ℕ) (hash row : ℕ) (first : Option ℕ) → p.now.section i ≡ Some o → hash ≡ hash_of p.now.seed text
-      → IsRouted p.now f o.place hash row
+      → IsRouted p.now f o.place hash row → ComesTo p.now f hash row
       → IsPath (links m) first (f.chain row (bucket_in row hash)) → Walking m p.now f i text hash row p.now.place first [] first
-  begins_walk i o text hash row first inside hashed routed path =
-      let used : IsUsed p.now f row (bucket_in row hash) = routed_used o.place hash row (bucket_in row hash) routed refl in
+  begins_walk i o text hash row first inside hashed routed to path =
+      let used : IsUsed p.now f row (bucket_in row hash) = comes_used p.now f hash row table.chains.within to in
       record {
         ahead = f.chain row (bucket_in row hash);
         path = path;
@@ -83,15 +142,19 @@ module _ (t : Table) (m : Memory) (p : Past) (f : Flow) (table : IsTable t m p f
                 held = inl (node.0, node.1, node.2, node.3);
                 near = λ other h born is.
                     let same : node.0 ≡ other = (let both : Linked node.0 node.1 node.2 ≡ Linked other h born = sym node.3 ∙ is in cc) in
-                    subst (λ (r : ℕ). bucket_in r (hash_of p.now.seed other) ≡ bucket_in r hash) routed
-                    (subst (λ (u : List ℕ). bucket_in row (hash_of p.now.seed u) ≡ bucket_in row hash) same node.4);
+                    home_near p.now f o.place hash row (hash_of p.now.seed other) table.chains.within to
+                    (subst (λ (u : List ℕ). IsHome p.now f row (bucket_in row hash) (hash_of p.now.seed u)) same node.4);
+                side = λ other h born is apart. elim (table.chains.sides row (bucket_in row hash) s other h born used on is) [
+                  | inl whole ↦ subst (λ (part : Parted). IsSpared part o.place) (sym whole) tt
+                  | inr mine ↦ absurd (apart (subst (λ (r : ℕ). bucket_in r (hash_of p.now.seed other) ≡ bucket_in r hash) mine.0 mine.1))
+                ];
               };
           once = tt;
           apart = λ s was on. was;
           been = λ s was. absurd was;
           live = λ e is.
               let linked = table.tidy.entries text e is in
-              inr (subst (λ (x : ℕ). On e.handle.slot (f.chain row (bucket_in row x))) (sym hashed) (table.chains.linked_on e.handle.slot text e.handle linked.0 row linked.1 routed));
+              inr (subst (λ (x : ℕ). On e.handle.slot (f.chain row (bucket_in row x))) (sym hashed) (table.chains.linked_on e.handle.slot text e.handle linked.0 row linked.1 (subst (λ (x : ℕ). ComesTo p.now f x row) hashed to)));
         };
       }
     where
@@ -99,7 +162,7 @@ module _ (t : Table) (m : Memory) (p : Past) (f : Flow) (table : IsTable t m p f
       anchor None way = tt
       anchor (Some s) way =
           let on : On s (f.chain row (bucket_in row hash)) = path_begins (links m) s (f.chain row (bucket_in row hash)) way in
-          let node = table.chains.on_linked row (bucket_in row hash) s (routed_used o.place hash row (bucket_in row hash) routed refl) on in
+          let node = table.chains.on_linked row (bucket_in row hash) s (comes_used p.now f hash row table.chains.within to) on in
           inl (node.0, node.1, node.2, node.3, (table.tidy.linked s node.0 node.1 node.2 node.3).1)
 
   module _ (i : ℕ) (text : List ℕ) (hash row load : ℕ) (first : Option ℕ) (passed : List ℕ) where

@@ -8,7 +8,7 @@ use Rattle.intern_log.specs.declared.event.Event.{Event}
 use Rattle.intern_log.specs.declared.event.What.{What}
 use Rattle.intern_log.specs.Own.{is_visible}
 use Rattle.cht_core.specs.Invariant.{events_of}
-use Rattle.cht_core.specs.Windows.{Somewhere, Another, AnotherSince, whats_by}
+use Rattle.cht_core.specs.Windows.{Somewhere, Another, AnotherSince, WasSince, whats_by}
 use Rattle.cht_core.specs.Causes.{IsUnseen}
 
 module _ (seen window : List Event) where
@@ -44,6 +44,13 @@ another_since i from Is seen window began h =
     let behind : from ≤ length h.0 = h.4 in
     let k = cut_behind seen window h.0 (h.2 ∷ h.1) h.3 (omega (arith, began, behind)) in
     (k.0, h.1, h.2, k.2, h.5, subst (λ log. Is log h.2.what) k.1 h.6)
+
+-- what a log said since the window began, it said at a place of it
+pub somewhere_since : (from : ℕ) (Says : List Event → Type 0) (seen window : List Event) → length seen ≤ from → WasSince Says from (seen ++ window) → Somewhere Says seen window
+somewhere_since from Says seen window began h =
+    let behind : from ≤ length h.0 = h.3 in
+    let k = cut_behind seen window h.0 h.1 h.2 (omega (arith, began, behind)) in
+    (k.0, h.1, k.2, subst Says k.1 h.4)
 
 -- the log is longer than what was seen
 pub seen_before : (seen window : List Event) (place : ℕ) → place ≡ length (seen ++ window) → length seen ≤ place

@@ -19,9 +19,11 @@ use Rattle.atomic_step.specs.Count.{generation_of, holds_of, holds_word}
 use Rattle.atomic_step.specs.Event.{event_of}
 use Rattle.atomic_step.specs.SoundStep.{IsSoundStep}
 use Rattle.cht_core.specs.declared.table.Table.{Table}
-use Rattle.cht_core.specs.Flow.{Flow, bucket_in, IsUsed, flow_after}
+use Rattle.cht_core.specs.Flow.{Flow, IsUsed, flow_after}
+use Rattle.cht_core.specs.Stage.{Quiet, bucket_in, named_level}
 use Rattle.cht_core.specs.KnowsCall.{HasClaimed, HasWords, MayChange, IsCountOf}
-use Rattle.cht_core.specs.KnowsWork.{IsOwner, IsDead, Locked}
+use Rattle.cht_core.specs.KnowsResize.{Resizing, NoHead, IsNewOfBucket, IsNewOfPair, MayPutNewLevel, MayRedirect, MayMove, MayStoreLevel, MayJoin, EndsUnzip}
+use Rattle.cht_core.specs.KnowsWork.{IsDead, Locked}
 use Rattle.cht_core.specs.Memory.{Memory, IsMade, found}
 use Rattle.cht_core.specs.Past.{Past, told, MayTell, kind_of}
 use Rattle.cht_core.specs.Rely.{Grows, Leaves, Spares}
@@ -63,12 +65,12 @@ MayFreeSlot m p i slot = (p.now.slot slot ≡ Claimed i)
     ⊎ ((at : ℕ) × (p.now.slot slot ≡ Unlinked i at) × IsGracedSince p.now at
     × ((h : Handle) → p.made h ≡ true → h.slot ≡ slot → h.generation < generation_of (m (place.Count slot))))
 
--- what a step needs; those of a grow or a shrink are none of a table of one level
+-- what a step needs
 abbrev pub Backs : Table → Memory → Past → Flow → ℕ → List ℕ → Step → Type 0
 Backs t m p f i text step.Draw = m place.Draws + 1 < 2 ^ 64
 Backs t m p f i text (step.OpenSection number counter) = IsOutside p.now i × (counter ≤ m place.Counter)
 Backs t m p f i text (step.CloseSection number) = IsInside p.now i
-Backs t m p f i text step.LoadNewLevel = ⊥
+Backs t m p f i text step.LoadNewLevel = (level : ℕ) × (named_level f.stage p.now.level ≡ Some level)
 Backs t m p f i text (step.SeeEntry kind slot) = (kind ≡ t.kind) × IsSeenWith p.now i slot text
 Backs t m p f i text (step.SeeHandle change h) = MayChange t.kind p f i change h
 Backs t m p f i text (step.TakeEntry slot count) = (t.kind ≡ Counted) × IsSeenWith p.now i slot text × (1 ≤ holds_of count)
@@ -82,16 +84,16 @@ Backs t m p f i text (step.PutNextGeneration slot generation) =
     ((at : ℕ) × (p.now.slot slot ≡ Unlinked i at)) × (m (place.Count slot) ≡ holds_word (record { slot = slot; generation = generation }) 0) × (generation + 1 ≤ p.uses slot)
 Backs t m p f i text (step.CreateEntry h row bucket head) = MayCreate t m p f i text h row bucket head
 Backs t m p f i text step.RaiseCounter = m place.Counter + 2 ≤ 2 ^ 64 - 4
-Backs t m p f i text (step.LockHead row bucket head) = IsUsed p.now f row bucket
-Backs t m p f i text (step.UnlockHead row bucket first) = Locked m p.now f i row bucket first
+Backs t m p f i text (step.LockHead row bucket head) = (is_locked head ≡ false) × (m (place.Head row bucket) ≡ head → IsUsed p.now f row bucket)
+Backs t m p f i text (step.UnlockHead row bucket first) = Locked m p.now f i row bucket first ⊎ EndsUnzip m p.now f i row bucket first
 Backs t m p f i text (step.Unlink slot from next) = MayUnlink m p f i slot from next
-Backs t m p f i text step.GiveResizeLock = IsOwner p.now i × ((s at : ℕ) → p.now.slot s ≡ Unlinked i at → 2 ^ 48 ≤ p.uses s)
-Backs t m p f i text (step.PutHead row bucket first) = ⊥
-Backs t m p f i text (step.PutNewLevel level) = ⊥
-Backs t m p f i text (step.RedirectHead row bucket first) = ⊥
-Backs t m p f i text (step.MoveEdge from next) = ⊥
-Backs t m p f i text (step.StoreLevel level) = ⊥
-Backs t m p f i text (step.JoinChains slot next) = ⊥
+Backs t m p f i text step.GiveResizeLock = Resizing p.now f i p.now.level Quiet NoHead × ((s at : ℕ) → p.now.slot s ≡ Unlinked i at → 2 ^ 48 ≤ p.uses s)
+Backs t m p f i text (step.PutHead row bucket first) = IsNewOfBucket p.now f i row bucket ⊎ IsNewOfPair m p.now f i row bucket first
+Backs t m p f i text (step.PutNewLevel level) = MayPutNewLevel p.now f i level
+Backs t m p f i text (step.RedirectHead row bucket first) = MayRedirect m p.now f i row bucket first
+Backs t m p f i text (step.MoveEdge from next) = MayMove m p.now f i from next
+Backs t m p f i text (step.StoreLevel level) = MayStoreLevel p.now f i level
+Backs t m p f i text (step.JoinChains slot next) = MayJoin m p.now f i slot next
 Backs t m p f i text _ = Unit {0}
 
 -- a step that a try call may make: it leaves the works of its own seat alone
@@ -104,6 +106,12 @@ IsOfTry n i (step.UnlockHead row bucket first) = ⊥
 IsOfTry n i (step.Unlink slot from next) = ⊥
 IsOfTry n i (step.TakeResizeLock number) = ⊥
 IsOfTry n i step.GiveResizeLock = ⊥
+IsOfTry n i (step.PutHead row bucket first) = ⊥
+IsOfTry n i (step.PutNewLevel level) = ⊥
+IsOfTry n i (step.RedirectHead row bucket first) = ⊥
+IsOfTry n i (step.MoveEdge from next) = ⊥
+IsOfTry n i (step.StoreLevel level) = ⊥
+IsOfTry n i (step.JoinChains slot next) = ⊥
 IsOfTry n i _ = Unit {0}
 
 -- what a step leads to: its event may be added, the table stays as it should be, and what the others know goes on
@@ -115,7 +123,7 @@ pub record LeadsOn (t : Table) (m : Memory) (p : Past) (f : Flow) (i : ℕ) (s :
   pub leaves : IsOfTry p.now i s → Leaves i m p f m' p' f'
 
 abbrev pub Goes : Table → Memory → Past → Flow → ℕ → List ℕ → Step → Memory → Type 0
-Goes t m p f i text s m' = LeadsOn t m p f i s (event_of text s (found s m)) m' (told p i (event_of text s (found s m))) (flow_after f i text s (found s m))
+Goes t m p f i text s m' = LeadsOn t m p f i s (event_of text s (found s m)) m' (told p i (event_of text s (found s m))) (flow_after p.now f i text s (found s m))
 
 -- a step that the table backs keeps it
 abbrev pub KeepsTable : Step → Type 0

@@ -43,12 +43,6 @@ MeetsLog kind log numbers (call.Kill h) = IsCreated log h
 MeetsLog kind log numbers (call.TextOf h) = MayRead kind log numbers h
 MeetsLog kind log numbers _ = Unit {0}
 
--- a table of one level begins no grow and no shrink
-abbrev pub IsOfOneLevel : Call → Type 0
-IsOfOneLevel call.BeginGrow = ⊥
-IsOfOneLevel call.BeginShrink = ⊥
-IsOfOneLevel _ = Unit {0}
-
 -- the text of a call is one of bytes
 abbrev pub HasBytes : Call → Type 0
 HasBytes (call.Intern text) = AreBytes text.now
@@ -67,7 +61,7 @@ begun_view t seed v own c = record v { seat = doing.Running (started t.kind t.sh
 -- a seat between its calls may begin each call whose condition holds
 abbrev pub MayBegin : Type 0
 MayBegin = (t : Table) (m : Memory) (seat seat' : ℕ → Option View) (log : List Event) (i : ℕ) (v : View) (own : Own) (c : Call) →
-    Inv t m seat log → seat i ≡ Some v → v.seat ≡ doing.Idle own → MayStart t.kind t.shape own c → IsOfOneLevel c → HasBytes c → MeetsLog t.kind log v.numbers c →
+    Inv t m seat log → seat i ≡ Some v → v.seat ≡ doing.Idle own → MayStart t.kind t.shape own c → HasBytes c → MeetsLog t.kind log v.numbers c →
     Moves seat seat' i (begun_view t (now_of t.shape.min_level log).seed v own c) → Inv t m seat' log
 
 -- a seat whose call has answered may be between its calls

@@ -32,7 +32,7 @@ draws_at _ = 0
 -- the value to which the last grace of a work raised the counter, or 0
 abbrev pub raised_by : Work → ℕ
 raised_by (work.Clean c) = c.along.grace.raised
-raised_by (work.Resize r) = 0
+raised_by (work.Resize r) = r.along.grace.raised
 
 -- 1 where a call has seen the counter below 2^48 and may raise it once without looking again
 abbrev pub raises_work : Option Work → ℕ
@@ -41,6 +41,7 @@ raises_work None = 0
 
 abbrev pub raises_left : Left → ℕ
 raises_left left.Clean = 1
+raises_left (left.Resize d level) = 1
 raises_left _ = 0
 
 abbrev pub raises_begin : BeginStage → ℕ

@@ -39,11 +39,11 @@ use Rattle.call_machine.specs.declared.stage.Calling.{Calling}
 use Rattle.call_machine.specs.declared.stage.Goal.{Goal}
 use Rattle.call_machine.specs.declared.stage.Goal.TheVariants.{Lookup, Intern, InternWait}
 use Rattle.cht_core.specs.declared.table.Table.{Table}
-use Rattle.cht_core.specs.Causes.{now_in}
+use Rattle.cht_core.specs.Causes.{now_in, IsRowOf, IsRowIn}
 use Rattle.cht_core.specs.Flow.{Flow, IsUsed}
 use Rattle.cht_core.specs.Past.{Past, past_of}
 use Rattle.cht_core.specs.Search.{IsLate, IsSeenWith}
-use Rattle.cht_core.specs.Windows.{Somewhere, Another, AnotherSince, whats_by}
+use Rattle.cht_core.specs.Windows.{Somewhere, Another, AnotherSince, WasSince, whats_by}
 
 -- what a try call is: a walk for a text, a change of a handle's count, a reading of a handle's text, or a split
 pub data Way : Type 0 where
@@ -70,26 +70,26 @@ IsGone h log = ¬ (IsLive (map_of log) h)
 abbrev pub IsTaken : Table → ℕ → List Event → Type 0
 IsTaken t slot log = ¬ ((now_in t log).slot slot ≡ Vacant)
 
--- the bucket of a text, and whether it is locked
-abbrev pub home_of : Now → List ℕ → ℕ
-home_of n text = bucket_of n.seed n.level text
+-- the bucket of a text in a row, and whether it is locked in one to which callers may come
+abbrev pub home_of : Now → ℕ → List ℕ → ℕ
+home_of n row text = bucket_of n.seed row text
 
 abbrev pub IsTextLocked : Table → List ℕ → List Event → Type 0
-IsTextLocked t text log = (k : ℕ) × ((now_in t log).lock (now_in t log).level (home_of (now_in t log) text) ≡ Some k)
+IsTextLocked t text log = (row : ℕ) × IsRowIn t row log × ((k : ℕ) × ((now_in t log).lock row (home_of (now_in t log) row text) ≡ Some k))
 
--- the event is on the handle; it is a Create, an Unlink or a Lock on the bucket of the text
+-- the event is on the handle; it is a Create, an Unlink or a Lock on the bucket of the text in a row
 abbrev pub IsOnHandle : Handle → List Event → What → Type 0
 IsOnHandle h log e = IsVisibleOn h e
 
-abbrev pub IsOnHome : Table → List ℕ → List Event → What → Type 0
-IsOnHome t text log e = IsCreateUnlinkOrLockOn (now_in t log) (now_in t log).level (home_of (now_in t log) text) e
+abbrev pub IsOnHome : Table → ℕ → List ℕ → List Event → What → Type 0
+IsOnHome t row text log e = IsCreateUnlinkOrLockOn (now_in t log) row (home_of (now_in t log) row text) e
 
--- a count was lost: another seat had an event on the handle with which the text was created; or a head was
+-- a count was lost: another seat had an event on the handle with which the text was created; or a head was, in a row to which callers may come
 abbrev pub CountLost : ℕ → List ℕ → List Event → List Event → Type 0
 CountLost i text seen window = (h : Handle) × Another i (IsOnHandle h) seen window × IsCreatedAs (seen ++ window) text h
 
 abbrev pub HeadLost : Table → ℕ → List ℕ → List Event → List Event → Type 0
-HeadLost t i text seen window = Another i (IsOnHome t text) seen window
+HeadLost t i text seen window = (row : ℕ) × Somewhere (IsRowIn t row) seen window × Another i (IsOnHome t row text) seen window
 
 -- what a walk that gives up has lost: an intern that waits does not give up
 abbrev pub LostBy : Goal → Table → ℕ → List ℕ → List Event → List Event → Type 0
@@ -131,9 +131,10 @@ abbrev pub IsIntern : Goal → Type 0
 IsIntern Lookup = ⊥
 IsIntern _ = Unit {0}
 
--- the walk loaded its head within the window, and where that was locked, so was the bucket of the text
+-- the walk loaded its head within the window, in a row to which callers came, and where that was locked, so was the bucket of the text
 pub record HeadFound (t : Table) (seen window : List Event) (load : ℕ) (text : List ℕ) (walk : Walk) : Type 0 where
   pub began : length seen ≤ load
+  pub row : Somewhere (IsRowIn t walk.row) seen window
   pub locked : is_locked walk.head ≡ true → Somewhere (IsTextLocked t text) seen window
 
 -- of `slots` slots the slot is among the `tried` ones before another, going round
@@ -153,8 +154,8 @@ CallCaused t i way seen window load q w (stage.Find s) = way ≡ Walks
 CallCaused t i way seen window load q w (stage.Node (node.Take slot count)) = (way ≡ Walks) × Somewhere (IsWordOf q.text (handle_at slot count) count) seen window
 CallCaused t i way seen window load q w (stage.Node s) = (way ≡ Walks) × HeadFound t seen window load q.text w.walk
 CallCaused t i way seen window load q w (stage.Insert (insert.Claim slot tried)) = (way ≡ Walks) × IsIntern q.goal × (length seen ≤ load)
-    × Somewhere (IsAbsent q.text) seen window × ((x : ℕ) → IsTried t.shape.slots slot tried x → Somewhere (IsTaken t x) seen window)
-CallCaused t i way seen window load q w (stage.Insert s) = (way ≡ Walks) × IsIntern q.goal × (length seen ≤ load)
+    × Somewhere (IsAbsent q.text) seen window × ((x : ℕ) → IsTried t.shape.slots slot tried x → Somewhere (IsTaken t x) seen window) × Somewhere (IsRowIn t w.walk.row) seen window
+CallCaused t i way seen window load q w (stage.Insert s) = (way ≡ Walks) × IsIntern q.goal × (length seen ≤ load) × Somewhere (IsRowIn t w.walk.row) seen window
 CallCaused t i way seen window load q w (stage.Handle (handle.Count change)) = (way ≡ Changes change) × WasMade t seen q.handle
 CallCaused t i way seen window load q w (stage.Handle (handle.Exchange change count)) =
     (way ≡ Changes change) × ((text : List ℕ) × Somewhere (IsWordOf text q.handle count) seen window)
@@ -164,23 +165,24 @@ CallCaused t i way seen window load q w (stage.Read s) = (way ≡ Reads) × WasM
 abbrev pub IsLateAlone : Now → List ℕ → ℕ → Type 0
 IsLateAlone n text load = (e : Entry) → entry_of n.texts text ≡ Some e → IsLate n text load e.handle.slot
 
--- the walk is at the bucket of the text
+-- the walk is at the bucket of the text, and callers come to it
 abbrev pub IsAtHome : Now → Flow → List ℕ → Walk → Type 0
-IsAtHome n f text walk = IsUsed n f walk.row walk.bucket × (walk.bucket ≡ home_of n text)
+IsAtHome n f text walk = IsUsed n f walk.row walk.bucket × IsRowOf n walk.row × (walk.bucket ≡ home_of n walk.row text)
 
 -- what the call knows as it finds a word, beside what the word says: a chain that is at its end has no earlier entry of the text, a node that
--- matches is one of the text, and the word of the head is the one that was loaded, or another seat had an event on the bucket since; a kill is
--- one in a weak table
+-- matches is one of the text, and the word of the head is the one that was loaded, or another seat had an event on the bucket since, which was
+-- locked since where the head is redirected; a kill is one in a weak table
 abbrev pub HearsHead : Past → Flow → List ℕ → Walk → ℕ → Type 0
 HearsHead p f text walk word = IsAtHome p.now f text walk × (first_of word ≡ None → IsLateAlone p.now text p.now.place)
 
 abbrev pub CallHears : Table → Past → Flow → ℕ → ℕ → List Event → Asked → Along → CallStage → ℕ → Type 0
-CallHears t p f i load log q w (stage.Find find.LoadHead) word = HearsHead p f q.text w.walk word
+CallHears t p f i load log q w (stage.Find find.LoadHead) word = is_redirected word ≡ false → HearsHead p f q.text w.walk word
 CallHears t p f i load log q w (stage.Find find.LoadNewHead) word = HearsHead p f q.text w.walk word
 CallHears t p f i load log q w (stage.Node (node.Count slot)) word = IsSeenWith p.now i slot q.text
 CallHears t p f i load log q w (stage.Node (node.Link slot)) word = node_of word ≡ None → IsLateAlone p.now q.text load
 CallHears t p f i load log q w (stage.Insert (insert.Create h)) word =
-    IsAtHome p.now f q.text w.walk × (is_redirected word ≡ false) × ((word ≡ w.walk.head) ⊎ AnotherSince i (IsOnHome t q.text) load log)
+    (is_redirected word ≡ false → IsAtHome p.now f q.text w.walk) × (is_redirected word ≡ true → WasSince (IsTextLocked t q.text) load log)
+    × ((word ≡ w.walk.head) ⊎ AnotherSince i (IsOnHome t w.walk.row q.text) load log)
 CallHears t p f i load log q w (stage.Handle (handle.Exchange change.Kill count)) word = t.kind ≡ Weak
 CallHears t p f i load log q w _ word = Unit {0}
 

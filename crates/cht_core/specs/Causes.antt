@@ -21,13 +21,19 @@ use Rattle.call_machine.specs.declared.clean.CleanStage.TheVariants as clean
 use Rattle.call_machine.specs.declared.lock.LockStage.TheVariants as lock
 use Rattle.call_machine.specs.declared.pass.Cleaning.{Cleaning}
 use Rattle.call_machine.specs.declared.pass.PassStage.TheVariants as pass
+use Rattle.call_machine.specs.declared.resize.Direction.{Direction}
+use Rattle.call_machine.specs.declared.resize.ResizeAlong.{ResizeAlong}
+use Rattle.call_machine.specs.declared.resize.ResizeStage.{ResizeStage}
+use Rattle.call_machine.specs.declared.resize.ResizeStage.TheVariants as resize
 use Rattle.call_machine.specs.declared.sweep.SweepStage.{SweepStage}
 use Rattle.call_machine.specs.declared.sweep.SweepStage.TheVariants as sweep
 use Rattle.cht_core.specs.declared.table.Table.{Table}
 use Rattle.call_machine.specs.declared.work.Work.{Work}
 use Rattle.call_machine.specs.declared.work.Work.TheVariants as work
+use Rattle.call_machine.specs.Resize.{bucket_at}
 use Rattle.cht_core.specs.Flow.{Flow, IsUsed}
 use Rattle.cht_core.specs.Past.{Past}
+use Rattle.cht_core.specs.TableState.{IsSettled}
 use Rattle.cht_core.specs.Windows.{Somewhere, Another, AnotherSince, whats_by}
 use Rattle.cht_core.specs.Unlinks.{unlinks_by, is_given}
 use Rattle.cht_core.specs.View.{load_after}
@@ -62,23 +68,24 @@ IsOpenBelow t number raised log = (o : OpenSection) × ((now_in t log).section n
 
 -- BEGINNINGS AND SWEEPS
 
+-- the level is this
+abbrev pub IsAtLevel : Table → ℕ → List Event → Type 0
+IsAtLevel t level log = level ≡ (now_in t log).level
+
 -- why a call that begins a work or a grace, or polls a grace, answers so
 abbrev pub BeginEnds : Table → ℕ → List Event → List Event → Answer → Left → Type 0
 BeginEnds t i seen window (answer.Spent counter) l = IsSpent t seen window counter
 BeginEnds t i seen window answer.Busy l = Somewhere (IsBusy t i) seen window
+BeginEnds t i seen window (answer.AtMaximum level) l = Somewhere (IsAtLevel t level) seen window × (level ≡ t.shape.max_level)
+BeginEnds t i seen window (answer.AtMinimum level) l = Somewhere (IsAtLevel t level) seen window × (level ≡ t.shape.min_level)
 BeginEnds t i seen window (answer.PendingSeat number) (left.Grace g) = Somewhere (IsOpenBelow t number g.raised) seen window
 BeginEnds t i seen window (answer.PendingSeat number) _ = ⊥
 BeginEnds t i seen window _ l = Unit {0}
 
--- the same before it answers: the resize lock is given back with an answer that needs no cause here
-abbrev pub IsOfLevel : Answer → Type 0
-IsOfLevel (answer.AtMaximum level) = Unit {0}
-IsOfLevel (answer.AtMinimum level) = Unit {0}
-IsOfLevel _ = ⊥
-
+-- the same before it answers: where it is about to give the resize lock back it has its answer
 abbrev pub BeginCaused : Table → ℕ → List Event → List Event → BeginStage → Type 0
 BeginCaused t i seen window (begin.Answered a l) = BeginEnds t i seen window a l
-BeginCaused t i seen window (begin.GiveResizeLock a) = IsOfLevel a
+BeginCaused t i seen window (begin.GiveResizeLock a) = BeginEnds t i seen window a left.Nothing
 BeginCaused t i seen window _ = Unit {0}
 
 -- what the seat knows of itself as it finds a word: it has not the resize lock where it goes for it
@@ -92,6 +99,13 @@ SweepCaused t seen window (sweep.Answered (answer.Spent counter)) = IsSpent t se
 SweepCaused t seen window _ = Unit {0}
 
 -- HEADS
+
+-- callers may come to a row: it is that of the level, or the next one while a row is being replaced
+abbrev pub IsRowOf : Now → ℕ → Type 0
+IsRowOf n row = (row ≡ n.level) ⊎ (¬ (IsSettled n) × ((row ≡ n.level + 1) ⊎ (n.level ≡ row + 1)))
+
+abbrev pub IsRowIn : Table → ℕ → List Event → Type 0
+IsRowIn t row log = IsRowOf (now_in t log) row
 
 -- another seat has the bucket locked
 abbrev pub IsLockedByOther : Table → ℕ → ℕ → ℕ → List Event → Type 0
@@ -114,18 +128,20 @@ abbrev pub loaded_at : Plan → ℕ → ℕ → ℕ
 loaded_at (plan.Step s) now load = load_after s now load
 loaded_at (plan.Answered a) now load = load
 
--- POLLS OF A CLEAN
+-- POLLS OF A WORK
 
--- why a poll of a clean answers so: the section is open with a counter below the raised one, or that is too great for a further grace;
--- the bucket is locked by another seat, or had an event of another seat
-abbrev pub CleanEnds : Table → ℕ → List Event → List Event → CleanAlong → Answer → Type 0
-CleanEnds t i seen window w (answer.PendingSeat number) = Somewhere (IsOpenBelow t number w.grace.raised) seen window ⊎ ((number ≡ 0) × (2 ^ 63 ≤ w.grace.raised))
-CleanEnds t i seen window w (answer.PendingBucket row bucket) = Somewhere (IsLockedByOther t i row bucket) seen window ⊎ Another i (IsOnBucket t row bucket) seen window
-CleanEnds t i seen window w _ = Unit {0}
+-- why a poll of a work answers so, by the value to which its last grace raised the counter: the section is open with a counter below that
+-- value, or that is too great for a further grace; the bucket is locked by another seat, or had an event of another seat
+abbrev pub WorkEnds : Table → ℕ → List Event → List Event → ℕ → Answer → Type 0
+WorkEnds t i seen window raised (answer.PendingSeat number) = Somewhere (IsOpenBelow t number raised) seen window ⊎ ((number ≡ 0) × (2 ^ 63 ≤ raised))
+WorkEnds t i seen window raised (answer.PendingBucket row bucket) = Somewhere (IsLockedByOther t i row bucket) seen window ⊎ Another i (IsOnBucket t row bucket) seen window
+WorkEnds t i seen window raised _ = Unit {0}
 
 abbrev pub PollEnds : Table → ℕ → List Event → List Event → Work → Answer → Type 0
-PollEnds t i seen window (work.Clean c) a = CleanEnds t i seen window c.along a
-PollEnds t i seen window (work.Resize r) a = ⊥
+PollEnds t i seen window (work.Clean c) a = WorkEnds t i seen window c.along.grace.raised a
+PollEnds t i seen window (work.Resize r) a = WorkEnds t i seen window r.along.grace.raised a
+
+-- POLLS OF A CLEAN
 
 -- the seat had the resize lock as the window began, and has not given it back in it
 abbrev pub KeepsResizeLock : Table → ℕ → List Event → List Event → Type 0
@@ -157,13 +173,26 @@ HeadLoaded seen load _ = Unit {0}
 
 -- what a poll of a clean has found out, and why it answers
 abbrev pub CleanCaused : Table → ℕ → List Event → List Event → ℕ → CleanAlong → CleanStage → Option Answer → Type 0
-CleanCaused t i seen window load w s (Some a) = CleanEnds t i seen window w a
+CleanCaused t i seen window load w s (Some a) = WorkEnds t i seen window w.grace.raised a
 CleanCaused t i seen window load w s None = KeepsResizeLock t i seen window × HasUnlinked t i seen window w s × HeadLoaded seen load s
 
--- the works of a table of one level are cleans
+-- POLLS OF A GROW OR A SHRINK
+
+-- the head that is about to be locked was loaded within the window
+abbrev pub OldHeadLoaded : List Event → ℕ → ResizeStage → Type 0
+OldHeadLoaded seen load (resize.Lock side (lock.LockHead head)) = length seen ≤ load
+OldHeadLoaded seen load _ = Unit {0}
+
+-- what a poll of a resize has found out, and why it answers
+abbrev pub ResizeCaused : Table → ℕ → List Event → List Event → ℕ → ResizeAlong → ResizeStage → Option Answer → Type 0
+ResizeCaused t i seen window load w s (Some a) = WorkEnds t i seen window w.grace.raised a
+ResizeCaused t i seen window load w s None = OldHeadLoaded seen load s
+
+-- POLLS OF ANY WORK
+
 abbrev pub PollCaused : Table → ℕ → List Event → List Event → ℕ → Work → Option Answer → Type 0
 PollCaused t i seen window load (work.Clean c) a = CleanCaused t i seen window load c.along c.stage a
-PollCaused t i seen window load (work.Resize r) a = ⊥
+PollCaused t i seen window load (work.Resize r) a = ResizeCaused t i seen window load r.along r.stage a
 
 -- what the seat knows as it finds a word: it has not locked the bucket that it is about to lock, to which callers come; and the slot that it
 -- unlinks is in that bucket
@@ -173,26 +202,42 @@ CleanHears t p f i load log w (clean.Lock (lock.LockHead head)) word = HeadSays 
 CleanHears t p f i load log w (clean.Pass (pass.Unlink s g next)) word = slot_bucket p.now w.cleaning.row s ≡ Some w.cleaning.bucket
 CleanHears t p f i load log w _ word = Unit {0}
 
+-- a resize has not locked the bucket that it is about to lock, to which callers come
+abbrev pub ResizeHears : Table → Past → Flow → ℕ → ℕ → List Event → Direction → ResizeAlong → ResizeStage → ℕ → Type 0
+ResizeHears t p f i load log d w (resize.Lock side lock.LoadHead) word = IsUsed p.now f w.level (bucket_at d w side) × ¬ (p.now.lock w.level (bucket_at d w side) ≡ Some i)
+ResizeHears t p f i load log d w (resize.Lock side (lock.LockHead head)) word = HeadSays t i w.level (bucket_at d w side) load head log word
+ResizeHears t p f i load log d w _ word = Unit {0}
+
 abbrev pub PollHears : Table → Past → Flow → ℕ → ℕ → List Event → Work → Option Answer → ℕ → Type 0
 PollHears t p f i load log (work.Clean c) None word = CleanHears t p f i load log c.along c.stage word
+PollHears t p f i load log (work.Resize r) None word = ResizeHears t p f i load log r.direction r.along r.stage word
 PollHears t p f i load log _ _ word = Unit {0}
 
--- between its polls a work has no bucket locked, and is not about to exchange a head
+-- between its polls a clean has no bucket locked, and is not about to exchange a head
 abbrev pub IsRestingAt : CleanStage → Type 0
 IsRestingAt (clean.Lock (lock.LockHead head)) = ⊥
 IsRestingAt (clean.Pass s) = ⊥
 IsRestingAt clean.UnlockHead = ⊥
 IsRestingAt _ = Unit {0}
 
+-- and a resize is not about to exchange a head to lock it
+abbrev pub IsAwayAt : ResizeStage → Type 0
+IsAwayAt (resize.Lock side (lock.LockHead head)) = ⊥
+IsAwayAt _ = Unit {0}
+
 abbrev pub IsResting : Work → Type 0
 IsResting (work.Clean c) = IsRestingAt c.stage
-IsResting (work.Resize r) = ⊥
+IsResting (work.Resize r) = IsAwayAt r.stage
 
 -- a poll that has answered rests
 abbrev pub RestsAt : CleanStage → Option Answer → Type 0
 RestsAt s None = Unit {0}
 RestsAt s (Some a) = IsRestingAt s
 
+abbrev pub AwayAt : ResizeStage → Option Answer → Type 0
+AwayAt s None = Unit {0}
+AwayAt s (Some a) = IsAwayAt s
+
 abbrev pub Rests : Work → Option Answer → Type 0
 Rests (work.Clean c) a = RestsAt c.stage a
-Rests (work.Resize r) a = Unit {0}
+Rests (work.Resize r) a = AwayAt r.stage a

@@ -1,10 +1,11 @@
 -- The chains against the log: which slots are on which chain, and in which order.
-use Rattle.std.specs.Prelude.{◌≡◌, ℕ, ◌<◌, ◌≤◌, ◌⊎◌, List, [], ◌∷◌}
+use Rattle.std.specs.Prelude.{◌≡◌, ℕ, ◌+◌, ◌<◌, ◌≤◌, ◌⊎◌, List, [], ◌∷◌}
 use Rattle.chain_core.specs.Nodes.{On, Once}
 use Rattle.text_words.specs.Hash.{hash_of}
 use Rattle.intern_log.specs.declared.event.Handle.{Handle}
 use Rattle.intern_log.specs.Now.{Now, Phase, Linked}
-use Rattle.cht_core.specs.Flow.{Flow, bucket_in, IsUsed, ComesTo, IsHome}
+use Rattle.cht_core.specs.Flow.{Flow, IsUsed, ComesTo, IsHome}
+use Rattle.cht_core.specs.Stage.{Whole, bucket_in, IsJoined, IsUnzipped, IsWithin}
 
 -- the place at which the entry of a slot was made
 abbrev pub birth : Phase → ℕ
@@ -31,6 +32,11 @@ pub record Chains (n : Now) (f : Flow) : Type 0 where
   pub linked_on : (s : ℕ) (text : List ℕ) (h : Handle) (at row : ℕ) → n.slot s ≡ Linked text h at → ComesTo n f (hash_of n.seed text) row →
       On s (f.chain row (bucket_in row (hash_of n.seed text)))
   pub once : (row bucket : ℕ) → IsUsed n f row bucket → Once (f.chain row bucket)
-  -- the newest come first, but for those that were there before callers came
-  pub ranked : (row bucket : ℕ) → IsUsed n f row bucket → AreRanked (f.base row bucket) (born n.slot) (f.chain row bucket)
+  -- the newest come first, except for those that were there before callers came, and behind a chain that leads on to another
+  pub ranked : (row bucket : ℕ) → IsUsed n f row bucket → IsJoined f.stage row bucket ⊎ AreRanked (f.base row bucket) (born n.slot) (f.chain row bucket)
   pub bases : (row bucket : ℕ) → f.base row bucket ≤ n.place
+  -- a slot that was moved past is linked with a text of the bucket that is unzipped, and is on the chain of its own side alone
+  pub sides : (row bucket s : ℕ) (text : List ℕ) (h : Handle) (at : ℕ) → IsUsed n f row bucket → On s (f.chain row bucket) → n.slot s ≡ Linked text h at →
+      (f.parted s ≡ Whole) ⊎ ((row ≡ n.level + 1) × (bucket_in row (hash_of n.seed text) ≡ bucket))
+  pub loose : (s : ℕ) → (f.parted s ≡ Whole) ⊎ ((text : List ℕ) × (h : Handle) × (at : ℕ) × (n.slot s ≡ Linked text h at) × IsUnzipped f.stage n.level (hash_of n.seed text))
+  pub within : IsWithin f.stage n.level

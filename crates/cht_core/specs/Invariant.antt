@@ -19,6 +19,7 @@ use Rattle.cht_core.specs.declared.table.Table.{Table}
 use Rattle.cht_core.specs.Bounds.{Bounds}
 use Rattle.cht_core.specs.Edges.{UnlinkedLead}
 use Rattle.cht_core.specs.Flow.{Flow}
+use Rattle.cht_core.specs.Graces.{GrowsWithFew}
 use Rattle.cht_core.specs.Memory.{Memory, IsMade, found}
 use Rattle.cht_core.specs.Owes.{IsAllOf}
 use Rattle.cht_core.specs.Past.{past_of, MayTell, kind_of, by}
@@ -47,6 +48,7 @@ pub record Inv (t : Table) (m : Memory) (seat : ℕ → Option View) (log : List
   pub holds : Holds seat log flow.holds
   pub lawful : IsShort log → IsLawful (kind_of t) log
   pub edges : UnlinkedLead t m log
+  pub graces : (k : ℕ) (v : View) → seat k ≡ Some v → GrowsWithFew (past_of t.shape.min_level log).now log flow v.seat
 
 -- one seat is at something else, and no other
 pub record Moves (seat seat' : ℕ → Option View) (i : ℕ) (v : View) : Type 0 where

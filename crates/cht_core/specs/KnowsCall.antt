@@ -1,5 +1,5 @@
 -- What a call of a reader or an inserter, or by handle, knows of the table at each of its stages.
-use Rattle.std.specs.Prelude.{◌≡◌, ℕ, ◌≤◌, ◌⊎◌, true, false, List, [], length, Some, IfSome}
+use Rattle.std.specs.Prelude.{◌≡◌, ◌≢◌, ℕ, ◌≤◌, ◌⊎◌, true, false, List, [], length, Some, IfSome}
 use Rattle.text_words.specs.Hash.{hash_of}
 use Rattle.text_words.specs.Words.{words_of}
 use Rattle.marked_word.specs.Head.{is_locked, is_redirected, first_of}
@@ -33,7 +33,8 @@ use Rattle.call_machine.specs.declared.stage.Asked.{Asked}
 use Rattle.call_machine.specs.declared.stage.CallStage.{CallStage}
 use Rattle.call_machine.specs.declared.stage.CallStage.TheVariants as stage
 use Rattle.call_machine.specs.Sought.{meta_of}
-use Rattle.cht_core.specs.Flow.{Flow, bucket_in}
+use Rattle.cht_core.specs.Flow.{Flow}
+use Rattle.cht_core.specs.Stage.{bucket_in}
 use Rattle.cht_core.specs.Memory.{Memory}
 use Rattle.cht_core.specs.Past.{Past}
 use Rattle.cht_core.specs.Search.{IsRouted, IsSentOn, IsNoMatch, IsInside, IsOutside, IsSeenWith, IsSeenLike, IsUnlinkedSince, Searched, Walking}
@@ -48,13 +49,18 @@ KnowsEnter m n i (enter.OpenSection counter) = IsOutside n i × (counter ≤ m p
 abbrev pub IsAtHead : Now → Flow → ℕ → ℕ → Walk → Type 0
 IsAtHead n f i hash walk = (o : OpenSection) × (n.section i ≡ Some o) × IsRouted n f o.place hash walk.row × (walk.bucket ≡ bucket_in walk.row hash)
 
+-- the same, where another row's head was redirected: the head that it is at is not
+abbrev pub IsAtNewHead : Now → Flow → ℕ → ℕ → Walk → Type 0
+IsAtNewHead n f i hash walk =
+    (o : OpenSection) × (n.section i ≡ Some o) × IsRouted n f o.place hash walk.row × (walk.bucket ≡ bucket_in walk.row hash) × ((old : ℕ) × (old ≢ walk.row) × IsSentOn n f o.place hash old)
+
 -- finding the head of a hash
 abbrev pub KnowsFind : Memory → Now → Flow → ℕ → ℕ → Walk → FindStage → Type 0
 KnowsFind m n f i hash walk (find.Enter s) = KnowsEnter m n i s
 KnowsFind m n f i hash walk find.LoadLevel = IsInside n i
 KnowsFind m n f i hash walk find.LoadHead = IsAtHead n f i hash walk
 KnowsFind m n f i hash walk find.LoadNewLevel = (o : OpenSection) × (n.section i ≡ Some o) × IsSentOn n f o.place hash walk.row
-KnowsFind m n f i hash walk find.LoadNewHead = IsAtHead n f i hash walk
+KnowsFind m n f i hash walk find.LoadNewHead = IsAtNewHead n f i hash walk
 
 -- the seat has claimed the slot, and its count word has the handle's generation
 abbrev pub HasClaimed : Memory → Now → ℕ → Handle → Type 0

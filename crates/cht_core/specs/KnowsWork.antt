@@ -6,7 +6,7 @@ use Rattle.marked_word.specs.Link.{link_word}
 use Rattle.table_shape.specs.declared.place.Place.TheVariants as place
 use Rattle.intern_log.specs.declared.event.Handle.{Handle}
 use Rattle.intern_log.specs.Lawful.{IsGracedSince}
-use Rattle.intern_log.specs.Now.{Now, OpenSection, Linked, Unlinked, owner_of}
+use Rattle.intern_log.specs.Now.{Now, Linked, Unlinked, owner_of}
 use Rattle.intern_log.specs.TextMap.{IsLive}
 use Rattle.atomic_step.specs.Count.{holds_word}
 use Rattle.atomic_step.specs.Step.{locked_head}
@@ -14,8 +14,6 @@ use Rattle.call_machine.specs.declared.begin.BeginStage.{BeginStage}
 use Rattle.call_machine.specs.declared.begin.BeginStage.TheVariants as begin
 use Rattle.call_machine.specs.declared.begin.Left.{Left}
 use Rattle.call_machine.specs.declared.begin.Left.TheVariants as left
-use Rattle.call_machine.specs.declared.begin.Task.{Task}
-use Rattle.call_machine.specs.declared.begin.Task.TheVariants as task
 use Rattle.call_machine.specs.declared.clean.CleanAlong.{CleanAlong}
 use Rattle.call_machine.specs.declared.clean.CleanStage.{CleanStage}
 use Rattle.call_machine.specs.declared.clean.CleanStage.TheVariants as clean
@@ -38,19 +36,15 @@ use Rattle.call_machine.specs.declared.work.Work.{Work}
 use Rattle.call_machine.specs.declared.work.Work.TheVariants as work
 use Rattle.cht_core.specs.Flow.{Flow, IsUsed}
 use Rattle.cht_core.specs.KnowsCall.{KnowsFind, IsAtHead}
+use Rattle.cht_core.specs.KnowsResize.{Graced, Resizing, NoHead, KnowsResize}
 use Rattle.cht_core.specs.Memory.{Memory}
 use Rattle.cht_core.specs.Past.{Past}
 use Rattle.cht_core.specs.Search.{IsInside, IsOutside}
+use Rattle.cht_core.specs.Stage.{Quiet, IsPinned}
 
 -- the seat has the resize lock
 abbrev pub IsOwner : Now → ℕ → Type 0
 IsOwner n i = owner_of n.resizing ≡ Some i
-
--- a grace that began at a place: each section with a counter from the raised one on was opened after it, and so was each of those that were passed
-pub record Graced (n : Now) (g : Grace) (at : ℕ) : Type 0 where
-  pub early : at < n.place
-  pub newer : (k : ℕ) (o : OpenSection) → n.section k ≡ Some o → g.raised ≤ o.counter → at < o.place
-  pub passed : (k : ℕ) (o : OpenSection) → k < g.next → n.section k ≡ Some o → at < o.place
 
 abbrev pub KnowsGrace : Now → Grace → Type 0
 KnowsGrace n g = (at : ℕ) × Graced n g at
@@ -92,9 +86,10 @@ KnowsFree m p i xs (free.PutNextGeneration at) = KnowsOver m p i (drop at xs)
 KnowsFree m p i xs (free.FreeSlot at) = (x : Waiting) × (rest : List Waiting) × (drop at xs ≡ x ∷ rest) × KnowsOver m p i rest × ¬ (On x.slot (slots_in rest))
     × IsRenewed m p i x
 
--- the seat has locked the head of a bucket, which leads to a first node
+-- the seat has locked the head of a bucket, which leads to a first node; it is none of those that a resize has locked
 pub record Locked (m : Memory) (n : Now) (f : Flow) (i row bucket : ℕ) (first : Option ℕ) : Type 0 where
   pub used : IsUsed n f row bucket
+  pub unpinned : ¬ (IsPinned f.stage n.level row bucket)
   pub lock : n.lock row bucket ≡ Some i
   pub head : m (place.Head row bucket) ≡ locked_head first
 
@@ -122,7 +117,7 @@ abbrev pub KnowsGracing : Memory → Past → ℕ → List Waiting → Grace →
 KnowsGracing m p i xs g grace.RaiseCounter = KnowsWaiting m p i xs
 KnowsGracing m p i xs g grace.LoadSection = KnowsWaited m p i xs g
 
--- a clean: its seat has the resize lock, so that the level stays
+-- a clean: its seat has the resize lock, so that the level stays, and there is no resize
 abbrev pub KnowsCleaning : Memory → Past → Flow → ℕ → CleanAlong → CleanStage → Type 0
 KnowsCleaning m p f i w clean.LoadLevel = w.cleaning.waiting.items ≡ []
 KnowsCleaning m p f i w (clean.Lock s) = (w.cleaning.row ≡ p.now.level) × KnowsWaiting m p i w.cleaning.waiting.items
@@ -133,10 +128,10 @@ KnowsCleaning m p f i w (clean.Grace freeing s) = (w.cleaning.row ≡ p.now.leve
 KnowsCleaning m p f i w (clean.Free freeing s) = (w.cleaning.row ≡ p.now.level) × KnowsFree m p i w.cleaning.waiting.items s
 KnowsCleaning m p f i w clean.GiveResizeLock = w.cleaning.waiting.items ≡ []
 
--- the works of a table of one level are cleans
+-- a work: a clean, or a grow or a shrink
 abbrev pub KnowsWork : Memory → Past → Flow → ℕ → Work → Type 0
-KnowsWork m p f i (work.Clean c) = IsOwner p.now i × KnowsCleaning m p f i c.along c.stage
-KnowsWork m p f i (work.Resize r) = ⊥
+KnowsWork m p f i (work.Clean c) = Resizing p.now f i p.now.level Quiet NoHead × KnowsCleaning m p f i c.along c.stage
+KnowsWork m p f i (work.Resize r) = KnowsResize m p.now f i r.direction r.along r.stage
 
 -- a sweep
 abbrev pub KnowsClosing : Memory → Now → Flow → ℕ → Cleaning → Closing → Type 0
@@ -155,22 +150,18 @@ KnowsSweep m p f i q w (sweep.Grace s) = IsOutside p.now i × KnowsGracing m p i
 KnowsSweep m p f i q w (sweep.Free s) = IsOutside p.now i × KnowsFree m p i w.cleaning.waiting.items s
 KnowsSweep m p f i q w (sweep.Answered a) = IsOutside p.now i
 
--- what a call that begins a work or a grace leaves its seat, and the call itself; a table of one level begins no resize
-abbrev pub KnowsLeft : Now → ℕ → Left → Type 0
-KnowsLeft n i left.Nothing = Unit {0}
-KnowsLeft n i left.Clean = IsOwner n i
-KnowsLeft n i (left.Resize d level) = ⊥
-KnowsLeft n i (left.Grace g) = KnowsGrace n g
+-- what a call that begins a work or a grace leaves its seat, and the call itself
+abbrev pub KnowsLeft : Now → Flow → ℕ → Left → Type 0
+KnowsLeft n f i left.Nothing = Unit {0}
+KnowsLeft n f i left.Clean = Resizing n f i n.level Quiet NoHead
+KnowsLeft n f i (left.Resize d level) = Resizing n f i level Quiet NoHead
+KnowsLeft n f i (left.Grace g) = KnowsGrace n g
 
-abbrev pub IsNoResize : Option Task → Type 0
-IsNoResize None = Unit {0}
-IsNoResize (Some t) = t ≡ task.Clean
-
-abbrev pub KnowsBegin : Now → ℕ → BeginStage → Type 0
-KnowsBegin n i (begin.LoadCounter t) = IsNoResize t
-KnowsBegin n i (begin.TakeResizeLock t) = t ≡ task.Clean
-KnowsBegin n i (begin.LoadLevel d) = ⊥
-KnowsBegin n i (begin.GiveResizeLock a) = ⊥
-KnowsBegin n i (begin.Grace g grace.RaiseCounter) = Unit {0}
-KnowsBegin n i (begin.Grace g grace.LoadSection) = KnowsGrace n g
-KnowsBegin n i (begin.Answered a l) = KnowsLeft n i l
+abbrev pub KnowsBegin : Now → Flow → ℕ → BeginStage → Type 0
+KnowsBegin n f i (begin.LoadCounter t) = Unit {0}
+KnowsBegin n f i (begin.TakeResizeLock t) = Unit {0}
+KnowsBegin n f i (begin.LoadLevel d) = Resizing n f i n.level Quiet NoHead
+KnowsBegin n f i (begin.GiveResizeLock a) = Resizing n f i n.level Quiet NoHead
+KnowsBegin n f i (begin.Grace g grace.RaiseCounter) = Unit {0}
+KnowsBegin n f i (begin.Grace g grace.LoadSection) = KnowsGrace n g
+KnowsBegin n f i (begin.Answered a l) = KnowsLeft n f i l

@@ -1,12 +1,15 @@
 -- What a seat has at most: nothing that its call or its work does not know of.
 use Rattle.std.specs.Prelude.{◌≡◌, ℕ, ◌^◌, ◌≤◌, ◌⊎◌, true, Bool, List, [], Option, Some, None, is_some}
+use Rattle.std.specs.Option.{option_to_list}
 use Rattle.chain_core.specs.Nodes.{On}
 use Rattle.intern_log.specs.Now.{Claimed, Unlinked, owner_of}
+use Rattle.atomic_step.specs.Monitor.{is_held}
 use Rattle.call_machine.specs.declared.machine.Machine.TheVariants as machine
 use Rattle.call_machine.specs.declared.work.Work.{Work}
 use Rattle.call_machine.specs.declared.work.Work.TheVariants as work
 use Rattle.call_machine.specs.CallSections.{claimed_slot}
 use Rattle.call_machine.specs.Poll.{work_left}
+use Rattle.call_machine.specs.ResizeLocks.{locked_heads}
 use Rattle.call_machine.specs.WholeClean as cleans
 use Rattle.call_machine.specs.WholeMachine.{has_lock}
 use Rattle.call_machine.specs.WholeSweep as sweeps
@@ -31,17 +34,18 @@ waiting_of (doing.Running (machine.Begin b)) = []
 waiting_of (doing.Running (machine.Poll p)) = waiting_of_work (work_left p.work p.answer)
 waiting_of (doing.Running (machine.Sweep s)) = sweeps.waiting_slots s
 
--- the bucket that a seat has locked
-abbrev pub locked_in_work : Option Work → Option (ℕ × ℕ)
-locked_in_work (Some (work.Clean c)) = cleans.locked_at c.along.cleaning c.stage
-locked_in_work _ = None
+-- the heads that a seat has locked, each by its row and its bucket: a clean and a sweep at most one
+abbrev pub locked_in_work : Option Work → List (ℕ × ℕ)
+locked_in_work (Some (work.Clean c)) = option_to_list (cleans.locked_at c.along.cleaning c.stage)
+locked_in_work (Some (work.Resize r)) = locked_heads r.direction r.along r.stage
+locked_in_work None = []
 
-abbrev pub locked_by : Seat → Option (ℕ × ℕ)
+abbrev pub locked_by : Seat → List (ℕ × ℕ)
 locked_by (doing.Idle own) = locked_in_work own.work
 locked_by (doing.Running (machine.Call c w g)) = locked_in_work w
-locked_by (doing.Running (machine.Begin b)) = None
+locked_by (doing.Running (machine.Begin b)) = []
 locked_by (doing.Running (machine.Poll p)) = locked_in_work (work_left p.work p.answer)
-locked_by (doing.Running (machine.Sweep s)) = sweeps.has_locked s
+locked_by (doing.Running (machine.Sweep s)) = option_to_list (sweeps.has_locked s)
 
 -- whether a seat has the resize lock
 abbrev pub is_owner : Seat → Bool
@@ -52,7 +56,7 @@ is_owner (doing.Running m) = has_lock m
 pub record Owes (p : Past) (i : ℕ) (s : Seat) : Type 0 where
   pub claimed : (slot : ℕ) → p.now.slot slot ≡ Claimed i → claimed_by s ≡ Some slot
   pub unlinked : (slot at : ℕ) → p.now.slot slot ≡ Unlinked i at → On slot (waiting_of s) ⊎ (2 ^ 48 ≤ p.uses slot)
-  pub locked : (row bucket : ℕ) → p.now.lock row bucket ≡ Some i → locked_by s ≡ Some (row, bucket)
+  pub locked : (row bucket : ℕ) → p.now.lock row bucket ≡ Some i → is_held row bucket (locked_by s) ≡ true
   pub owner : owner_of p.now.resizing ≡ Some i → is_owner s ≡ true
 
 -- who is no seat has nothing, but for slots that are never freed

@@ -1,8 +1,8 @@
 -- The parts of the invariant of a table: what its words, its log and what its seats are at say together.
-use Rattle.std.specs.Prelude.{◌≡◌, ℕ, ◌+◌, ◌*◌, ◌/◌, ◌^◌, ◌<◌, ◌≤◌, ◌⊎◌, List, [], length, Option, Some, None}
+use Rattle.std.specs.Prelude.{◌≡◌, ℕ, ◌+◌, ◌*◌, ◌/◌, ◌^◌, ◌<◌, ◌≤◌, ◌⊎◌, false, List, [], length, Option, Some, None}
 use Rattle.chain_core.specs.Nodes.{On, Once}
 use Rattle.chain_core.specs.Path.{IsPath}
-use Rattle.marked_word.specs.Head.{first_of}
+use Rattle.marked_word.specs.Head.{is_redirected, first_of}
 use Rattle.table_shape.specs.declared.place.Place.TheVariants as place
 use Rattle.intern_log.specs.declared.event.Entry.{Entry}
 use Rattle.intern_log.specs.declared.event.Event.{Event}
@@ -39,17 +39,19 @@ use Rattle.call_machine.specs.Poll.{work_left}
 use Rattle.cht_core.specs.declared.seat.Seat.{Seat}
 use Rattle.cht_core.specs.declared.seat.Seat.TheVariants as doing
 use Rattle.cht_core.specs.declared.table.Table.{Table}
-use Rattle.cht_core.specs.KnowsWork.{Graced, slots_in}
+use Rattle.cht_core.specs.KnowsResize.{Graced}
+use Rattle.cht_core.specs.KnowsWork.{slots_in}
 use Rattle.cht_core.specs.Memory.{Memory, links}
 use Rattle.cht_core.specs.Owes.{claimed_by, waiting_of}
 use Rattle.cht_core.specs.Past.{is_use}
 use Rattle.cht_core.specs.Search.{IsLinked, IsHeld}
+use Rattle.cht_core.specs.TableState.{IsSettled}
 use Rattle.cht_core.specs.View.{View}
 
--- the link of a linked slot, and the head of a bucket of the level's row, lead to a linked slot or to none
+-- the link of a linked slot, and the head of a bucket of the level's row that is not redirected, lead to a linked slot or to none
 pub record EdgesLead (m : Memory) (n : Now) : Type 0 where
   pub of_links : (s next : ℕ) → IsLinked n s → links m s ≡ Some next → IsLinked n next
-  pub of_heads : (bucket first : ℕ) → bucket < 2 ^ n.level → first_of (m (place.Head n.level bucket)) ≡ Some first → IsLinked n first
+  pub of_heads : (bucket first : ℕ) → bucket < 2 ^ n.level → is_redirected (m (place.Head n.level bucket)) ≡ false → first_of (m (place.Head n.level bucket)) ≡ Some first → IsLinked n first
 
 -- a slot to which the link of an unlinked slot leads, and which is itself unlinked, was unlinked after it
 abbrev pub UnlinkedLeadLater : Memory → Now → Type 0
@@ -158,10 +160,13 @@ abbrev pub WalkersAreLedSafely : Memory → Now → (ℕ → Option View) → Ty
 WalkersAreLedSafely m n seat = (k : ℕ) (v : View) (c : Calling) (node : Option ℕ) (ahead : List ℕ) → IsWalk seat k v c node → IsPath (links m) node ahead →
     (o : OpenSection) × (n.section k ≡ Some o) × ((s : ℕ) → On s ahead → IsHeld n o.place s)
 
--- a walk is in the level's row, in the bucket of its text
+-- a walk is in the bucket of its text in its row; that is the level's row while nobody has the resize lock, and for a section that was opened since the
+-- last Level also while no row is being replaced
 abbrev pub WalksAreRouted : Now → (ℕ → Option View) → Type 0
 WalksAreRouted n seat = (k : ℕ) (v : View) (c : Calling) (node : Option ℕ) → IsWalk seat k v c node →
-    (c.along.walk.row ≡ n.level) × (c.along.walk.bucket ≡ bucket_of n.seed n.level c.asked.text)
+    (c.along.walk.bucket ≡ bucket_of n.seed c.along.walk.row c.asked.text)
+    × (n.resizing ≡ None → c.along.walk.row ≡ n.level)
+    × ((o : OpenSection) → n.section k ≡ Some o → n.since ≤ o.place → IsSettled n → c.along.walk.row ≡ n.level)
 
 -- the entry was made at or after a place; or before it
 abbrev pub IsMadeSince : Now → ℕ → List ℕ → Entry → Type 0
@@ -181,10 +186,10 @@ pub record IsHeadAsLoaded (m : Memory) (seat : ℕ → Option View) (k : ℕ) (v
   pub walk : IsWalk seat k v c None
   pub head : m (place.Head c.along.walk.row c.along.walk.bucket) ≡ c.along.walk.head
 
--- then each live entry of the bucket was made before the load
+-- then each live entry of the bucket in that row was made before the load
 abbrev pub FirstNodesAreOld : Memory → Now → (ℕ → Option View) → Type 0
 FirstNodesAreOld m n seat = (k : ℕ) (v : View) (c : Calling) (text : List ℕ) (e : Entry) → IsHeadAsLoaded m seat k v c → entry_of n.texts text ≡ Some e →
-    bucket_of n.seed n.level text ≡ c.along.walk.bucket → IsMadeBefore n v.load text e
+    bucket_of n.seed c.along.walk.row text ≡ c.along.walk.bucket → IsMadeBefore n v.load text e
 
 -- and so the text that is to be inserted has no live entry
 abbrev pub InsertedTextsAreAbsent : Memory → Now → (ℕ → Option View) → Type 0

@@ -1,13 +1,15 @@
 -- What a step of any seat may do to what the others know.
-use Rattle.std.specs.Prelude.{◌≡◌, ℕ, ◌<◌, ◌≤◌, ◌⊎◌, true, List, Option, Some}
+use Rattle.std.specs.Prelude.{◌≡◌, ℕ, ◌<◌, ◌≤◌, ◌⊎◌, true, List, Option, Some, None}
 use Rattle.chain_core.specs.Nodes.{On}
 use Rattle.chain_core.specs.Path.{IsPath}
 use Rattle.table_shape.specs.declared.place.Place.TheVariants as place
+use Rattle.text_words.specs.Hash.{hash_of}
 use Rattle.intern_log.specs.declared.event.Entry.{Entry}
 use Rattle.intern_log.specs.declared.event.Handle.{Handle}
 use Rattle.intern_log.specs.Now.{Now, OpenSection, Claimed, Linked, Unlinked, owner_of}
 use Rattle.intern_log.specs.TextMap.{entry_of}
-use Rattle.cht_core.specs.Flow.{Flow, bucket_in, IsUsed}
+use Rattle.cht_core.specs.Flow.{Flow, IsUsed}
+use Rattle.cht_core.specs.Stage.{bucket_in}
 use Rattle.cht_core.specs.Memory.{Memory, links}
 use Rattle.cht_core.specs.Past.{Past}
 use Rattle.cht_core.specs.Search.{IsFit, IsHeld, IsRouted, IsSentOn}
@@ -21,7 +23,7 @@ pub record Rerouted (n : Now) (f : Flow) (m' : Memory) (n' : Now) (f' : Flow) (s
   pub left : List ℕ
   pub path : IsPath (links m') node left
   pub fit : (s : ℕ) → On s left → IsFit n' f' since hash s
-  pub kept : (s : ℕ) → On s ahead → On s left ⊎ IsUnwanted n' text s
+  pub kept : (s : ℕ) → On s ahead → On s left ⊎ (hash ≡ hash_of n.seed text → IsUnwanted n' text s)
   pub fresh : (s : ℕ) → On s left → On s ahead ⊎ (IsFit n f since hash s → ⊥)
 
 -- what a step does to nodes that were passed, and to walks
@@ -57,6 +59,11 @@ pub record Grows (m : Memory) (p : Past) (f : Flow) (m' : Memory) (p' : Past) (f
 pub record Still (n : Now) (f : Flow) (n' : Now) (f' : Flow) : Type 0 where
   pub level : n'.level ≡ n.level
   pub since : n'.since ≡ n.since
+  pub stage : f'.stage ≡ f.stage
+  pub before : f'.before ≡ f.before
+  pub parted : (s : ℕ) → f'.parted s ≡ f.parted s
+  -- a head to which no callers come is locked by nobody else
+  pub free : (row bucket : ℕ) → ¬ (IsUsed n f row bucket) → n.lock row bucket ≡ None → n'.lock row bucket ≡ None
 
 -- what a step leaves a seat of what its works and sweeps have: also one of its own, where it is that of a try call
 pub record Leaves (i : ℕ) (m : Memory) (p : Past) (f : Flow) (m' : Memory) (p' : Past) (f' : Flow) : Type 0 where

@@ -1,5 +1,5 @@
 -- What a walker knows of the nodes before it and of those that it passed.
-use Rattle.std.specs.Prelude.{◌≡◌, ℕ, ◌<◌, ◌≤◌, ◌⊎◌, List, length, Option, Some, None}
+use Rattle.std.specs.Prelude.{◌≡◌, ◌≢◌, ℕ, ◌+◌, ◌<◌, ◌≤◌, ◌⊎◌, List, length, Option, Some, None}
 use Rattle.chain_core.specs.Nodes.{On, Once}
 use Rattle.chain_core.specs.Path.{IsPath}
 use Rattle.text_words.specs.Hash.{hash_of}
@@ -8,7 +8,8 @@ use Rattle.intern_log.specs.declared.event.Entry.{Entry}
 use Rattle.intern_log.specs.declared.event.Handle.{Handle}
 use Rattle.intern_log.specs.Now.{Now, OpenSection, Linked, Unlinked}
 use Rattle.intern_log.specs.TextMap.{entry_of}
-use Rattle.cht_core.specs.Flow.{Flow, bucket_in}
+use Rattle.cht_core.specs.Flow.{Flow}
+use Rattle.cht_core.specs.Stage.{bucket_in, next_row, IsSent, IsNearIn, IsSpared}
 use Rattle.cht_core.specs.Memory.{Memory, links}
 
 abbrev pub IsLinked : Now → ℕ → Type 0
@@ -22,22 +23,25 @@ IsUnlinkedSince n since s = (seat : ℕ) × (at : ℕ) × (n.slot s ≡ Unlinked
 abbrev pub IsHeld : Now → ℕ → ℕ → Type 0
 IsHeld n since s = IsLinked n s ⊎ IsUnlinkedSince n since s
 
--- a node of a text with one hash may stand on a walk for a text with another
+-- a node of a text with one hash may stand on a walk for a text with another, in a section that was opened at the place
 abbrev pub IsNear : Now → Flow → ℕ → ℕ → ℕ → Type 0
-IsNear n f since sought hash = bucket_in n.level hash ≡ bucket_in n.level sought
+IsNear n f since sought hash = IsNearIn f.stage n.level n.since since sought hash
 
--- the node may be on a walk for a text with this hash, in a section that was opened at the place
+-- the node may be on a walk for a text with this hash, in a section that was opened at the place: one of the other side, only where it was not
+-- moved past, or the counter was raised after that with the section open
 pub record IsFit (n : Now) (f : Flow) (since hash s : ℕ) : Type 0 where
   pub held : IsHeld n since s
   pub near : (text : List ℕ) (h : Handle) (born : ℕ) → n.slot s ≡ Linked text h born → IsNear n f since hash (hash_of n.seed text)
+  pub side : (text : List ℕ) (h : Handle) (born : ℕ) → n.slot s ≡ Linked text h born → bucket_in (n.level + 1) (hash_of n.seed text) ≢ bucket_in (n.level + 1) hash →
+      IsSpared (f.parted s) since
 
 -- a walker for a text with this hash, in a section that was opened at the place, was sent to the row
 abbrev pub IsRouted : Now → Flow → ℕ → ℕ → ℕ → Type 0
-IsRouted n f since hash row = row ≡ n.level
+IsRouted n f since hash row = (row ≡ n.level) ⊎ (((row ≡ next_row f.stage n.level) × IsSent f.stage n.level hash) ⊎ ((row ≡ f.before) × (since < n.since)))
 
 -- and found its head redirected
 abbrev pub IsSentOn : Now → Flow → ℕ → ℕ → ℕ → Type 0
-IsSentOn n f since hash row = ⊥
+IsSentOn n f since hash row = ((row ≡ n.level) × IsSent f.stage n.level hash) ⊎ ((row ≡ f.before) × (since < n.since))
 
 -- no node; or one that was linked before the load, or was unlinked since
 abbrev pub IsAnchor : Now → ℕ → ℕ → Option ℕ → Type 0

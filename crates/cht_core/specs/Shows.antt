@@ -1,5 +1,5 @@
 -- The words of a table show its log: four points, over places and words.
-use Rattle.std.specs.Prelude.{◌≡◌, ℕ, ◌+◌, ◌*◌, ◌%◌, ◌^◌, ◌<◌, ◌↔◌, true, List, length, Some, None}
+use Rattle.std.specs.Prelude.{◌≡◌, ℕ, ◌+◌, ◌*◌, ◌%◌, ◌^◌, ◌<◌, ◌↔◌, List, length, Some, None}
 use Rattle.chain_core.specs.Nodes.{On, Once}
 use Rattle.chain_core.specs.Path.{IsPath}
 use Rattle.text_words.specs.Hash.{hash_of}
@@ -13,6 +13,7 @@ use Rattle.intern_log.specs.Now.{Now, OpenSection, Resizing, Vacant, Linked}
 use Rattle.intern_log.specs.TextMap.{entry_of, IsLive}
 use Rattle.cht_core.specs.declared.table.Table.{Table}
 use Rattle.cht_core.specs.Memory.{Memory, links}
+use Rattle.cht_core.specs.TableState.{IsSettled}
 
 -- the counter is the first one plus twice the graces, the level word is the level, and the resize lock is 0 or its owner's number plus 1
 pub record ShowsTable (t : Table) (m : Memory) (n : Now) : Type 0 where
@@ -43,10 +44,6 @@ ShowsEntries m n = (s : ℕ) (text : List ℕ) (h : Handle) (born : ℕ) → n.s
 -- the slot is linked with a text of the bucket
 abbrev pub IsOfBucket : Now → ℕ → ℕ → Type 0
 IsOfBucket n bucket s = (text : List ℕ) × (h : Handle) × (born : ℕ) × (n.slot s ≡ Linked text h born) × (bucket_of n.seed n.level text ≡ bucket)
-
--- no row is being replaced
-abbrev pub IsSettled : Now → Type 0
-IsSettled n = (r : Resizing) → n.resizing ≡ Some r → r.replacing ≡ true → ⊥
 
 -- where no row is being replaced, the path from each head of the level's row is made of exactly the linked slots of its bucket, each once
 abbrev pub ShowsChains : Memory → Now → Type 0

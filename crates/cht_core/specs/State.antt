@@ -31,7 +31,7 @@ use Rattle.cht_core.specs.declared.state.Started.TheVariants as begun
 use Rattle.cht_core.specs.declared.state.Stepped.{Stepped}
 use Rattle.cht_core.specs.declared.state.Stepped.TheVariants as stepped
 use Rattle.cht_core.specs.declared.table.Table.{Table}
-use Rattle.cht_core.specs.Begins.{MeetsLog, IsOfOneLevel, first_own}
+use Rattle.cht_core.specs.Begins.{MeetsLog, first_own}
 use Rattle.cht_core.specs.Causes.{IsResting, Rests}
 use Rattle.cht_core.specs.Invariant.{Inv, events_of}
 use Rattle.cht_core.specs.Memory.{memory_of}
@@ -114,7 +114,6 @@ IsMakeFault shape counter fault.OutOfMemory = IsSound shape × IsFirstCounter co
 -- the condition of a call of a seat
 pub record CanStart (c : Core) (own : Own) (asked : Call) : Type 0 where
   pub may : MayStart c.table.kind c.table.shape own asked
-  pub level : IsOfOneLevel asked
   pub log : MeetsLog c.table.kind c.log (own.number ∷ []) asked
 
 -- the state with another seat at a number

@@ -83,7 +83,7 @@ KnowsOwn m p f i own = IsOutside p.now i × IfSome own.work (KnowsWork m p f i) 
 abbrev pub KnowsMachine : Memory → Past → Flow → ℕ → ℕ → List ℕ → Machine → Type 0
 KnowsMachine m p f i load passed (machine.Call c w g) =
     KnowsCall m p f i load passed c.asked c.along c.stage × IfSome w (KnowsWork m p f i) × IfSome g (KnowsGrace p.now)
-KnowsMachine m p f i load passed (machine.Begin b) = IsOutside p.now i × KnowsBegin p.now i b.stage
+KnowsMachine m p f i load passed (machine.Begin b) = IsOutside p.now i × KnowsBegin p.now f i b.stage
 KnowsMachine m p f i load passed (machine.Poll q) = IsOutside p.now i × IfSome (work_left q.work q.answer) (KnowsWork m p f i)
 KnowsMachine m p f i load passed (machine.Sweep s) = KnowsSweep m p f i s.asked s.along s.stage
 

@@ -18,6 +18,10 @@ Another i Is seen window = (before rest : List Event) × (e : Event) × (window 
 abbrev pub AnotherSince : ℕ → (List Event → What → Type 0) → ℕ → List Event → Type 0
 AnotherSince i Is from log = (front back : List Event) × (e : Event) × (log ≡ front ++ e ∷ back) × (from ≤ length front) × (e.seat ≢ i) × Is front e.what
 
+-- and at a place of it from there on the log said so
+abbrev pub WasSince : (List Event → Type 0) → ℕ → List Event → Type 0
+WasSince Says from log = (front back : List Event) × (log ≡ front ++ back) × (from ≤ length front) × Says front
+
 -- what happened in the events of a seat
 abbrev pub whats_by : ℕ → List Event → List What
 whats_by i [] = []

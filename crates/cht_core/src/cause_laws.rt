@@ -17,7 +17,7 @@ ghost use Rattle.atomic_step.specs.declared.answer.Answer.{Answer};
 ghost use Rattle.atomic_step.specs.declared.plan.Plan.TheVariants as plan;
 ghost use Rattle.atomic_step.specs.declared.step.Step.{Step};
 ghost use Rattle.atomic_step.specs.Event as steps;
-ghost use Rattle.call_machine.specs.declared.begin.Left.TheVariants as left;
+ghost use Rattle.call_machine.specs.declared.begin.Left.{Left};
 ghost use Rattle.call_machine.specs.declared.call.Call.{Call};
 ghost use Rattle.call_machine.specs.declared.caller.Caller.{Caller};
 ghost use Rattle.call_machine.specs.declared.clean.Clean.{Clean};
@@ -113,11 +113,11 @@ pub fn a_head_is_what_was_loaded_or_another_changed_it()
         Headed t m' i (loaded_at (plan_of machine) now load) (log ++ more) (got_of machine (found s m)) }
 {}
 
-/// A work rests between its polls: a clean that was begun rests, and a poll that begins with a work that rests leaves one where it
+/// A work rests between its polls: a work that was begun rests, and a poll that begins with a work that rests leaves one where it
 /// answers.
 #[tactic(auto, using(crate::proofs::CauseRests::begun_rests, crate::proofs::CauseRests::poll_begins_resting, crate::proofs::CauseRests::poll_rests))]
 pub fn works_rest_between_their_polls()
-    ensures begun { (shape : Shape) (w : Work) → begun_work shape left.Clean ≡ Some w → IsResting w }
+    ensures begun { (shape : Shape) (l : Left) → IfSome (begun_work shape l) IsResting }
     ensures begins { (w : Work) → IsResting w → Rests (resumes w).0 (resumes w).1 }
     ensures steps { (p : Polling) (word : ℕ) → Rests p.work p.answer → Rests (poll_got p word).work (poll_got p word).answer }
 {}

@@ -4,7 +4,7 @@ ghost use Rattle.call_machine.specs.SoundMachine.{MayStart};
 ghost use Rattle.intern_log.specs.Log.{creates as creates_in};
 ghost use Rattle.intern_log.specs.Own.{is_gain, is_loss};
 ghost use Rattle.cht_core.specs.Slots.{AreBytes};
-ghost use Rattle.cht_core.specs.Begins.{IsHeld, IsCreated, MeetsLog, IsOfOneLevel, HasBytes};
+ghost use Rattle.cht_core.specs.Begins.{IsHeld, IsCreated, MeetsLog, HasBytes};
 
 use crate::table::Table;
 use call_machine::machine::may_start;
@@ -14,21 +14,20 @@ use intern_log::{Event, Handle, Kind, What};
 /// Whether the condition of a call of a seat holds.
 pub(crate) fn can_start(table: &Table, log: &[Event], own: &Own, call: Call<'_>) -> bool
     ensures bytes { HasBytes call.entry }
-    ensures exact { IsTrue result ↔ (MayStart table.now.kind table.now.shape own.now call.entry × IsOfOneLevel call.entry × MeetsLog table.now.kind log.now (own.now.number ∷ []) call.entry) }
+    ensures exact { IsTrue result ↔ (MayStart table.now.kind table.now.shape own.now call.entry × MeetsLog table.now.kind log.now (own.now.number ∷ []) call.entry) }
 {
-    let level = is_of_one_level(call);
-    may_start(table.kind, &table.shape, own, call)
-        && level
+    let bytes = has_bytes(call);
+    bytes
+        && may_start(table.kind, &table.shape, own, call)
         && meets_log(table.kind, log, own.number, call)
 }
 
-/// Whether a table of one level has the call.
-fn is_of_one_level(call: Call<'_>) -> bool
-    ensures exact { IsTrue result ↔ IsOfOneLevel call.entry }
+/// The text of a call, if it has one, is one of bytes.
+fn has_bytes(call: Call<'_>) -> bool
+    ensures value { result ≡ true }
     ensures bytes { HasBytes call.entry }
 {
     match call {
-        Call::BeginGrow | Call::BeginShrink => false,
         Call::Intern(text) => is_text(text),
         Call::Lookup(text) => is_text(text),
         Call::InternWait(text) => is_text(text),

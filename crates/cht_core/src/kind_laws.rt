@@ -3,7 +3,7 @@
 //!
 //! Each function does nothing: its contract is the law.
 ghost use Rattle.cht_core.specs.Invariant.{Keeps};
-ghost use Rattle.atomic_step.specs.declared.access.StepKind.TheVariants.{K1, K2, K3, K4, K5, K6, K7, K8, K9, K10, K11, K12, K13, K14, K15, K16, K17, K18, K19, K20};
+ghost use Rattle.atomic_step.specs.declared.access.StepKind.TheVariants.{K1, K2, K3, K4, K5, K6, K7, K8, K9, K10, K11, K12, K13, K14, K15, K16, K17, K18, K19, K20, K21, K22, K23, K24, K25, K26};
 
 /// K1: a load of the number of drawn seats, and the draw of one more.
 pub fn draws_keep_the_invariant()
@@ -100,7 +100,37 @@ pub fn loads_of_the_level_keep_the_invariant()
     ensures keeps { Keeps K19 }
 {}
 
-/// K20: a load of the new level, which a table of one level never makes.
+/// K20: a load of the new level, by a walker that met a redirected head.
 pub fn loads_of_the_new_level_keep_the_invariant()
     ensures keeps { Keeps K20 }
+{}
+
+/// K21: a head of the new row is stored with its lock, to which no callers come yet.
+pub fn heads_made_keep_the_invariant()
+    ensures keeps { Keeps K21 }
+{}
+
+/// K22: the word of the new level is stored, as a resize begins to tell it, or it is cleared.
+pub fn new_levels_keep_the_invariant()
+    ensures keeps { Keeps K22 }
+{}
+
+/// K23: the mark of a redirect is stored into a locked head, so that callers go on to the new row.
+pub fn redirects_keep_the_invariant()
+    ensures keeps { Keeps K23 }
+{}
+
+/// K24: an edge is moved past a node of the other side of the bucket that is unzipped.
+pub fn moves_keep_the_invariant()
+    ensures keeps { Keeps K24 }
+{}
+
+/// K25: the level is stored, once each bucket or each pair of buckets is redirected.
+pub fn levels_keep_the_invariant()
+    ensures keeps { Keeps K25 }
+{}
+
+/// K26: the last even node of a pair is led to the odd chain.
+pub fn joins_keep_the_invariant()
+    ensures keeps { Keeps K26 }
 {}

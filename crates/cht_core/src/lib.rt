@@ -3,10 +3,12 @@
 
 pub mod cause_laws;
 mod condition;
+pub mod grace_bound_laws;
 pub mod kind_laws;
 pub mod part_laws;
 pub mod rehash;
 pub mod rehash_laws;
+pub mod resize_laws;
 pub mod run_laws;
 pub mod seat;
 pub mod seat_laws;

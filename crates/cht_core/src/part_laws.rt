@@ -17,8 +17,8 @@ ghost use Rattle.cht_core.specs.Parts.{LiveSlotsDiffer, TextsHaveOneEntry, IsFre
 ghost use Rattle.cht_core.specs.Past.{Past, kind_of, MayTell};
 ghost use Rattle.cht_core.specs.View.{View};
 
-/// The link of a linked slot, and the head of each bucket of the level's row, lead to a linked slot or to none. The link of an unlinked
-/// slot leads to none, or to another slot that was linked as it was unlinked. So it leads to no slot that was unlinked before it.
+/// The link of a linked slot, and each head of the level's row that is not redirected, lead to a linked slot or to none. The link of an
+/// unlinked slot leads to none, or to another slot that was linked as it was unlinked. So it leads to no slot that was unlinked before it.
 pub fn edges_lead_to_linked_slots()
     ensures law { (t : Table) (m : Memory) (seat : ℕ → Option View) (log : List Event) → Inv t m seat log → EdgesLead m (now_of t.shape.min_level log) }
     ensures unlinked { (t : Table) (m : Memory) (seat : ℕ → Option View) (log : List Event) → Inv t m seat log → UnlinkedLead t m log }
@@ -42,15 +42,16 @@ pub fn graces_pass_no_section_that_they_wait_for()
     ensures waiting { (t : Table) (m : Memory) (seat : ℕ → Option View) (log : List Event) → Inv t m seat log → PassedSectionsAreNewer (now_of t.shape.min_level log) seat }
 {}
 
-/// A walk is in the bucket of its text in the level's row. The live entry of its text, if there is one, was made at or after the load of
-/// the head, or lies ahead of the walker.
+/// A walk is in the bucket of its text in its row. That is the level's row while nobody has the resize lock, and for a section that was
+/// opened since the last Level also while no row is being replaced. The live entry of its text, if there is one, was made at or after the
+/// load of the head, or lies ahead of the walker, at any stage of a resize.
 pub fn walkers_miss_no_live_entry()
     ensures bucket { (t : Table) (m : Memory) (seat : ℕ → Option View) (log : List Event) → Inv t m seat log → WalksAreRouted (now_of t.shape.min_level log) seat }
     ensures ahead { (t : Table) (m : Memory) (seat : ℕ → Option View) (log : List Event) → Inv t m seat log → WalkersMissNothing m (now_of t.shape.min_level log) seat }
 {}
 
-/// Where the head of its bucket is the word that an inserter loaded, each live entry of the bucket was made before the load. So the
-/// inserter's text has no live entry.
+/// Where the head of its walk is the word that an inserter loaded, each live entry of a text of that bucket in that row was made before
+/// the load. So the inserter's text has no live entry.
 pub fn heads_that_are_as_loaded_have_old_entries()
     ensures old { (t : Table) (m : Memory) (seat : ℕ → Option View) (log : List Event) → Inv t m seat log → FirstNodesAreOld m (now_of t.shape.min_level log) seat }
     ensures absent { (t : Table) (m : Memory) (seat : ℕ → Option View) (log : List Event) → Inv t m seat log → InsertedTextsAreAbsent m (now_of t.shape.min_level log) seat }

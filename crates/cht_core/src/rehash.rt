@@ -1,4 +1,10 @@
 //! Making a table anew by the next seed of its hash.
+//!
+//! Nobody works in the table meanwhile. First the heads of the level's row are cleared. Then the slots are
+//! gone through from the last one down: each linked one gets the hash of its text by the new seed, and is
+//! put before the others of its bucket. So each chain has its slots in ascending order. A slot that is
+//! taken and has a count above 0 is linked, as no seat has claimed one. Of one whose count is 0 the words do
+//! not tell whether it is linked, so the log is asked, and where it is linked nothing is made anew.
 ghost use Rattle.std.specs.Prelude.{◌≡◌, ◌*◌, ◌^◌, ◌<◌, ◌≤◌, ◌↔◌, ℕ, length, Some, true};
 ghost use Rattle.table_shape.specs.Place.{IsInside};
 ghost use Rattle.table_shape.specs.Shape.{IsSound, words_of};

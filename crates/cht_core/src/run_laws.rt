@@ -1,7 +1,9 @@
 //! Laws of runs: what comes of a table by moves of anybody, and of a call in the middle of them.
 //! Each function does nothing: its contract is the law.
 ghost use Rattle.std.specs.Prelude.{◌≡◌, ◌≢◌, ℕ, ◌+◌, ◌*◌, ◌<◌, List, [], ◌∷◌, ◌++◌, Some};
+ghost use Rattle.std.specs.Borrow.{Bor};
 ghost use Rattle.intern_log.specs.declared.event.Event.{Event};
+ghost use Rattle.intern_log.specs.declared.event.Handle.{Handle};
 ghost use Rattle.atomic_step.specs.declared.answer.Answer.{Answer};
 ghost use Rattle.atomic_step.specs.declared.answer.Answer.TheVariants as answer;
 ghost use Rattle.atomic_step.specs.declared.plan.Plan.TheVariants as plan;
@@ -31,6 +33,7 @@ pub fn logs_only_grow()
 {}
 
 /// A call that makes a step is under way as it begins, and by each move that starts no call of its seat it stays so as long as it runs.
+/// No move of others changes what it is at.
 #[tactic(auto, using(crate::proofs::RunGoesOn::under_way_begins))]
 pub fn calls_are_under_way_from_their_start()
     ensures begins { (c : Core) → IsCore c → (k : ℕ) (own : Own) (asked : Call) (s : AtomicStep) → seat_in c.seats k ≡ Some (doing.Idle own) → HasBytes asked → CanStart c own asked →
@@ -38,6 +41,8 @@ pub fn calls_are_under_way_from_their_start()
         IsUnderWay c k own asked [] (with_seat c k (seat_after (started c.table.kind c.table.shape c.seed own asked))) (started c.table.kind c.table.shape c.seed own asked) }
     ensures goes_on { (c d new : Core) (k : ℕ) (own : Own) (asked : Call) (moves : List Move) (move : Move) (m n : Machine) → IsUnderWay c k own asked moves d m → Makes d move new →
         IsNoStart k move → seat_in new.seats k ≡ Some (doing.Running n) → IsUnderWay c k own asked (moves ++ move ∷ []) new n }
+    ensures others { (c d new : Core) (k : ℕ) (own : Own) (asked : Call) (moves : List Move) (move : Move) (m : Machine) → IsCore c → IsUnderWay c k own asked moves d m →
+        Makes d move new → IsNoStart k move → move ≢ Step k → seat_in new.seats k ≡ Some (doing.Running m) }
 {}
 
 /// Each answer that a call gives in a run has its cause in the window that began with the call, whatever others did meanwhile.
@@ -56,6 +61,8 @@ pub fn each_answer_of_a_run_has_its_cause()
 pub fn try_calls_answer_in_time()
     ensures law { (c d : Core) (k : ℕ) (own : Own) (asked : Call) (moves : List Move) (m : Machine) → IsCore c → IsUnderWay c k own asked moves d m → IsTryCall asked →
         steps_of k moves < 16 + c.table.shape.text_words + c.table.shape.slots * (4 + c.table.shape.text_words) }
+    ensures tries { IsTryCall call.Split × ((text : Bor (List ℕ)) → IsTryCall (call.Intern text) × IsTryCall (call.Lookup text))
+        × ((h : Handle) → IsTryCall (call.TextOf h) × IsTryCall (call.Drop h) × IsTryCall (call.Permanent h) × IsTryCall (call.Kill h)) }
     ensures counted { (asked : Call) → steps_of 1 (Step 1 ∷ Step 0 ∷ Rehash ∷ Start 1 asked ∷ Step 1 ∷ []) ≡ 2 }
 {}
 

@@ -1,6 +1,7 @@
 //! Tests of the core.
 mod laws;
 mod rehash;
+mod resizes;
 mod schedules;
 
 use super::*;
@@ -92,7 +93,9 @@ fn calls_of_a_counted_table(rt: HostRuntime) {
         call(&mut state, 1, Call::Drop(a)),
         Some(Answer::Dropped { left: 0 })
     );
-    assert_eq!(rt; state.start(0, Call::BeginGrow), Started::Refused);
+    assert_eq!(rt; call(&mut state, 0, Call::BeginGrow), Some(Answer::Begun));
+    assert_eq!(rt; state.start(0, Call::BeginClean), Started::Refused);
+    assert!(rt; matches!(call(&mut state, 0, Call::PollWork), Some(Answer::Done(_))));
     assert_eq!(rt; call(&mut state, 0, Call::BeginClean), Some(Answer::Begun));
     assert_eq!(rt; state.start(0, Call::Split), Started::Refused);
     assert!(rt; matches!(call(&mut state, 0, Call::PollWork), Some(Answer::Done(_))));
@@ -168,12 +171,17 @@ fn tables_that_are_not_made(rt: HostRuntime) {
 
 #[test]
 fn logs_of_schedules_are_lawful(rt: HostRuntime) {
+    let mut levels = 0usize;
     for seed in 0..120 {
         let kind = if seed % 2 == 0 {
             Kind::Counted
         } else {
             Kind::Weak
         };
-        assert!(rt; schedules::is_lawful_run(rt.alloc(), kind, seed, 300));
+        let Some(stored) = schedules::levels_of_run(rt.alloc(), kind, seed, 300) else {
+            panic!(rt; "the log is lawful")
+        };
+        levels = levels.wrapping_add(stored);
     }
+    assert!(rt; levels > 100);
 }

@@ -3,6 +3,7 @@ use super::*;
 
 #[test]
 fn laws_can_be_called() {
+    grace_bound_laws::a_grow_has_few_graces();
     kind_laws::draws_keep_the_invariant();
     kind_laws::claims_keep_the_invariant();
     kind_laws::stores_into_an_own_slot_keep_the_invariant();
@@ -23,6 +24,12 @@ fn laws_can_be_called() {
     kind_laws::givings_of_the_resize_lock_keep_the_invariant();
     kind_laws::loads_of_the_level_keep_the_invariant();
     kind_laws::loads_of_the_new_level_keep_the_invariant();
+    kind_laws::heads_made_keep_the_invariant();
+    kind_laws::new_levels_keep_the_invariant();
+    kind_laws::redirects_keep_the_invariant();
+    kind_laws::moves_keep_the_invariant();
+    kind_laws::levels_keep_the_invariant();
+    kind_laws::joins_keep_the_invariant();
     part_laws::edges_lead_to_linked_slots();
     part_laws::sections_hold_what_their_walkers_meet();
     part_laws::graces_pass_no_section_that_they_wait_for();

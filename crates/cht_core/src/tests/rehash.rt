@@ -102,3 +102,38 @@ fn rehash_is_refused_beside_what_is_unfinished(rt: HostRuntime) {
     assert_eq!(rt; state.rehash(), Rehashing::Done);
     assert!(rt; is_lawful_log(rt.alloc(), state.log()));
 }
+
+#[test]
+fn weak_tables_are_made_anew(rt: HostRuntime) {
+    let Ok(mut state) = State::new(rt.alloc(), Kind::Weak, EIGHT, 0) else {
+        panic!(rt; "the table is made")
+    };
+    let (first, second) = (first_of(0), first_of(1));
+    assert_eq!(rt;
+        call(&mut state, 0, Call::Intern(b"Aa")),
+        Some(Answer::Created(first))
+    );
+    assert_eq!(rt;
+        call(&mut state, 0, Call::Intern(b"BB")),
+        Some(Answer::Created(second))
+    );
+    assert_eq!(rt; state.rehash(), Rehashing::Done);
+    assert_eq!(rt;
+        call(&mut state, 0, Call::Lookup(b"BB")),
+        Some(Answer::Hit(second))
+    );
+    assert_eq!(rt;
+        call(&mut state, 0, Call::Kill(first)),
+        Some(Answer::Killed)
+    );
+    assert_eq!(rt; state.rehash(), Rehashing::Refused);
+    assert_eq!(rt;
+        call(&mut state, 0, Call::Sweep(b"Aa")),
+        Some(Answer::Swept { unlinked: 1 })
+    );
+    assert_eq!(rt; state.rehash(), Rehashing::Done);
+    assert_eq!(rt;
+        call(&mut state, 0, Call::Lookup(b"BB")),
+        Some(Answer::Hit(second))
+    );
+}

@@ -2,6 +2,7 @@
 ghost use Rattle.std.specs.Prelude.{◌<◌};
 
 use super::*;
+use intern_log::What;
 
 /// A generator of numbers: the next state, and a number below the bound.
 fn draw(state: &mut u64, bound: u64) -> u64
@@ -19,7 +20,7 @@ fn drawn_call(state: &mut u64, log: &[Event]) -> Call<'static> {
     let texts: [&'static [u8]; 4] = [b"a", b"b", b"c", b""];
     let text = texts[draw(state, 4) as usize];
     let handle = drawn_handle(state, log);
-    match draw(state, 14) {
+    match draw(state, 18) {
         0 | 1 | 2 => Call::Intern(text),
         3 => Call::InternWait(text),
         4 | 5 => Call::Lookup(text),
@@ -29,6 +30,8 @@ fn drawn_call(state: &mut u64, log: &[Event]) -> Call<'static> {
         10 => Call::Sweep(text),
         11 => Call::BeginClean,
         12 => Call::BeginGrace,
+        13 | 14 => Call::BeginGrow,
+        15 | 16 => Call::BeginShrink,
         _ => Call::Permanent(handle),
     }
 }
@@ -44,7 +47,7 @@ fn drawn_handle(state: &mut u64, log: &[Event]) -> Handle {
     }
     let from = draw(state, log.len() as u64) as usize;
     for event in log.iter().skip(from) {
-        if let intern_log::What::Create(_, handle) = &event.what {
+        if let What::Create(_, handle) = &event.what {
             return *handle;
         }
     }
@@ -65,20 +68,35 @@ fn goes_on(table: &mut State<'static>, seat: u32, state: &mut u64) {
     }
 }
 
-/// Whether the log of a run of so many turns is lawful.
-pub fn is_lawful_run(alloc: Global, kind: Kind, seed: u64, turns: u32) -> bool {
+/// A table after a run of so many turns.
+fn run_of(alloc: Global, kind: Kind, seed: u64, turns: u32) -> Option<State<'static>> {
     let Ok(mut table) = State::new(alloc, kind, SMALL, 0) else {
-        return false;
+        return None;
     };
     let mut state = seed.wrapping_mul(0x9e37_79b9_7f4a_7c15);
     for seat in 0..2 {
-        if call(&mut table, seat, Call::Split).is_none() {
-            return false;
-        }
+        call(&mut table, seat, Call::Split)?;
     }
     for _ in 0..turns {
         let seat = draw(&mut state, 3) as u32;
         goes_on(&mut table, seat, &mut state);
     }
-    is_lawful(alloc, kind, table.log()) && table.log().len() > 40
+    Some(table)
+}
+
+/// How often a log stores a level.
+fn levels(log: &[Event]) -> usize {
+    log.iter()
+        .filter(|event| matches!(event.what, What::Level(_)))
+        .count()
+}
+
+/// How often the log of a run of so many turns stores a level, if it is lawful.
+pub fn levels_of_run(alloc: Global, kind: Kind, seed: u64, turns: u32) -> Option<usize> {
+    let table = run_of(alloc, kind, seed, turns)?;
+    let log = table.log();
+    if is_lawful(alloc, kind, log) && log.len() > 40 {
+        return Some(levels(log));
+    }
+    None
 }

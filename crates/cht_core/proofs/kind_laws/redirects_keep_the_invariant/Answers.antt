@@ -1,0 +1,7 @@
+use Rattle.atomic_step.specs.declared.access.StepKind.TheVariants.{K23}
+use Rattle.cht_core.proofs.KindKeeps.{kind_keeps}
+use Rattle.cht_core.proofs.KindSteps.{redirects_keep}
+use Rattle.cht_core.proofs.kind_laws.redirects_keep_the_invariant.Goals as goal
+
+pub returns : goal.returns
+returns c = record { keeps = kind_keeps K23 redirects_keep }
