@@ -3,7 +3,6 @@ use Rattle.std.proofs.Common.{◌≡◌, ℕ, ◌+◌, ◌≤◌, Option, Some, 
 use Rattle.atomic_step.specs.declared.answer.Answer.{Answer}
 use Rattle.atomic_step.specs.declared.answer.Answer.TheVariants as answer
 use Rattle.atomic_step.specs.declared.answer.Worked.{Worked}
-use Rattle.atomic_step.specs.declared.plan.Plan.{Plan}
 use Rattle.atomic_step.specs.declared.plan.Plan.TheVariants as plan
 use Rattle.atomic_step.specs.declared.step.Step.{Step}
 use Rattle.atomic_step.specs.Turn.{plan_in, next_in}
@@ -21,7 +20,7 @@ use Rattle.call_machine.proofs.Machines.{plan_is, got_is, same_law}
 use Rattle.cht_core.specs.declared.seat.Seat.TheVariants as doing
 use Rattle.cht_core.specs.Graces.{creates_in}
 use Rattle.cht_core.specs.Runs.{word_in}
-use Rattle.cht_core.specs.State.{Core, IsCore, seat_in, views_of, after_step}
+use Rattle.cht_core.specs.State.{Core, IsCore, seat_in, after_step}
 use Rattle.cht_core.proofs.GraceBounds.{few_when_done}
 use Rattle.cht_core.proofs.StateLaw.{any_step_keeps, any_word_fits}
 use Rattle.cht_core.proofs.StateSteps.{running, moves}

@@ -99,7 +99,6 @@ pub mod MachineBounds
 pub mod MachineCalls
 pub mod MachineSteps
 pub mod MoveEdges
-pub mod MoveGraces
 pub mod MoveKnows
 pub mod MoveParts
 pub mod MoveSteps

@@ -43,9 +43,17 @@ fn laws_can_be_called() {
     rehash_laws::a_rehash_keeps_the_invariant();
     rehash_laws::a_table_is_quiet_before_a_rehash();
     rehash_laws::a_rehash_has_one_outcome();
+    resize_laws::linked_slots_are_on_a_path();
+    resize_laws::unzipped_chains_are_split();
+    resize_laws::moves_are_those_of_unzipping();
+    resize_laws::joined_pairs_lead_to_both_chains();
+    resize_laws::walkers_keep_to_their_sides();
+    resize_laws::walkers_stay_in_their_pairs();
+    resize_laws::walkers_stand_where_callers_come();
     seat_laws::seats_may_begin_a_call();
     seat_laws::seats_may_rest_after_an_answer();
     seat_laws::new_seats_may_be_added();
     seat_laws::seats_may_be_joined();
     show_laws::the_words_show_the_log();
+    show_laws::words_that_are_found_speak_of_the_log();
 }
