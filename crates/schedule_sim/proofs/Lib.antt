@@ -1,0 +1,17 @@
+pub mod Cuts
+pub mod Numbers
+pub mod Forms
+pub mod Lines
+pub mod StepKinds
+pub mod Handles
+pub mod Openings
+pub mod ReadLines
+pub mod Exact
+pub mod All
+pub mod Goes
+pub mod Made
+pub mod Moves
+pub mod Opened
+pub mod Texts
+pub mod Walks
+pub mod Wide

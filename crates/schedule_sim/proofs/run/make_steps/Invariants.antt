@@ -1,0 +1,10 @@
+use Rattle.std.proofs.Common.{None}
+use Rattle.schedule_sim.specs.Turns.{Keeps}
+use Rattle.schedule_sim.proofs.Goes.{WentOn}
+use Rattle.schedule_sim.proofs.run.make_steps.Given as goal
+
+abbrev pub invariant-loop : goal.invariant-loop
+invariant-loop l = record {
+  went : WentOn None l.number l.counter l.fn.state l.state l.fn.out.items l.out.items;
+  kept : Keeps l.fn.state l.state;
+}
