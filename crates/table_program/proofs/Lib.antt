@@ -15,3 +15,5 @@ pub mod StringCode
 pub mod Settling
 pub mod LongTexts
 pub mod FileReports
+pub mod CommandWords
+pub mod ReplayFaults

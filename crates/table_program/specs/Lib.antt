@@ -8,4 +8,5 @@ pub mod Notes
 pub mod Limits
 pub mod Writing
 pub mod Words
-pub mod PlainRun
+pub mod Runs
+pub mod ReplayRun

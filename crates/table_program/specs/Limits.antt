@@ -1,4 +1,4 @@
--- The limits of the input of `plain`.
+-- The limits of the input.
 use Rattle.std.specs.Prelude.{ℕ, ◌+◌, ◌≤◌, nat_lt, List, length, Option, Some, None, if◌then◌else◌}
 use Rattle.std.specs.Option.{option_map, option_or}
 use Rattle.name_scan.specs.declared.Token.{Token}
@@ -37,9 +37,13 @@ tokens_note bytes found =
     (above Names most_names (length (names_among bytes found))))
     (above Literals most_literals (length (literals_among bytes found)))
 
--- the note of the first limit that the file passes: the bytes are looked at before their tokens
-abbrev pub limit_note : List ℕ → Option Note
-limit_note bytes = if nat_lt most_bytes (length bytes) then Some (note.Limit Bytes (most_bytes + 1)) else tokens_note bytes (tokens bytes)
+-- the note of a file that has too many bytes
+abbrev pub bytes_note : List ℕ → Option Note
+bytes_note bytes = if nat_lt most_bytes (length bytes) then Some (note.Limit Bytes (most_bytes + 1)) else None
+
+-- the note of the first limit that a file of names and literals passes: the bytes are looked at before their tokens
+abbrev pub file_note : List ℕ → Option Note
+file_note bytes = option_or (bytes_note bytes) (tokens_note bytes (tokens bytes))
 
 -- the token's text is no longer than a text may be
 abbrev pub IsShort : List ℕ → Token → Type 0

@@ -1,10 +1,13 @@
 //! The program's commands.
 //!
 //! `run` takes the words of a command line and does what they say on the files and the output that it
-//! is given; `run_plain` is what it calls for `plain`. An `Outcome` has the exit status and a note, and
-//! `note_line` stores the line that tells of both.
+//! is given; `run_plain` and `run_replay` are what it calls for `plain` and `replay`. An `Outcome` has the
+//! exit status and a note, and `note_line` stores the line that tells of both.
 #![tactic(auto)]
 
+#[cfg(test)]
+mod cases;
+mod command;
 mod commands;
 mod limits;
 mod literals;
@@ -12,8 +15,11 @@ mod names;
 mod outcome;
 mod plain;
 mod reading;
+mod replay;
 mod settle;
 mod writing;
 
-pub use commands::{run, run_plain};
+pub use commands::run;
 pub use outcome::{Limit, Note, Outcome, note_line};
+pub use plain::run_plain;
+pub use replay::run_replay;

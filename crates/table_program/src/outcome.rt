@@ -2,6 +2,7 @@ ghost use Rattle.std.specs.Prelude.{◌≡◌, ◌+◌, ◌<◌, ◌≤◌, ◌+
 ghost use Rattle.table_program.specs.Notes.{limit_word, plain_text, note_text, IsNoteOf};
 
 use itoa::Buffer;
+use schedule_sim::ScriptFault;
 use std::alloc::AllocError;
 
 /// How a run ended.
@@ -49,6 +50,17 @@ impl Outcome {
         }
     }
 
+    /// The line of that number, from 1, is the first of the script at fault.
+    pub fn script_fault(number: u64) -> Outcome
+        ensures status { result.status ≡ 8 }
+        ensures note { result.note ≡ Note.Line number }
+    {
+        Outcome {
+            status: 8,
+            note: Note::Line { number },
+        }
+    }
+
     /// The input passes a limit by this value.
     pub fn over_limit(which: Limit, value: u64) -> Outcome
         ensures status { result.status ≡ 4 }
@@ -69,6 +81,20 @@ impl From<AllocError> for Outcome {
 
     fn from(_: AllocError) -> Outcome {
         Outcome::NO_MEMORY
+    }
+}
+
+impl From<ScriptFault> for Outcome {
+    ghost use Rattle.std.specs.Prelude.{◌≡◌};
+    ghost use Rattle.table_program.specs.ReplayRun.{outcome_of};
+
+    ghost from_gives = { λ fault outcome. outcome ≡ outcome_of fault };
+
+    fn from(fault: ScriptFault) -> Outcome {
+        match fault {
+            ScriptFault::Line { number } => Outcome::script_fault(number),
+            ScriptFault::OutOfMemory => Outcome::NO_MEMORY,
+        }
     }
 }
 

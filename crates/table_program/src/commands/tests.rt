@@ -1,345 +1,77 @@
 use super::*;
+use crate::cases::strings;
+use crate::outcome::Note;
 use io_edge::{MemFiles, MemSink, NoPace};
 use std::alloc::AllocError;
 use std::process::Abort;
 use std::test::Fail;
 
-/// The longest text and one byte more.
-static LETTERS: [u8; 65_536] = [b'a'; 65_536];
-
-/// A run over one file, and what must come of it.
-#[derive(Clone, Copy)]
-struct Case {
-    words: &'static [&'static str],
-    name: &'static str,
-    bytes: &'static [u8],
-    /// The numbers of the calls of the files that fail.
-    failing_reads: &'static [u64],
-    /// The numbers of the calls of the sink that fail.
-    failing_writes: &'static [u64],
-    /// How many bytes the sink takes.
-    room: usize,
-    status: u8,
-    note: Note,
-    written: &'static [u8],
-}
-
-/// `plain f` over an empty file `f`.
-const EMPTY: Case = Case {
-    words: &["plain", "f"],
-    name: "f",
-    bytes: b"",
-    failing_reads: &[],
-    failing_writes: &[],
-    room: 1024,
-    status: 0,
-    note: Note::Nothing,
-    written: b"symbols names=0 live=0 references=0\n\
-        symbols buckets=8 longest=0 average=0 rest=0\n\
-        strings literals=0 live=0\n\
-        strings buckets=8 longest=0 average=0 rest=0\n\
-        symbol log created=0 taken=0 dropped=0\n\
-        string log created=0 found=0 killed=0\n",
-};
-
-/// `plain f` over a file `f` of three names, two of them equal.
-const THREE_NAMES: Case = Case {
-    bytes: b"a b a",
-    written: b"symbols names=3 live=2 references=3\n\
-        symbols buckets=8 longest=1 average=0 rest=2\n\
-        strings literals=0 live=0\n\
-        strings buckets=8 longest=0 average=0 rest=0\n\
-        symbol log created=2 taken=1 dropped=0\n\
-        string log created=0 found=0 killed=0\n",
-    ..EMPTY
-};
-
-/// Words that the program does not take, so that it writes nothing.
-const USAGE: Case = Case {
-    status: 1,
-    written: b"",
-    ..EMPTY
-};
-
-/// A file that cannot be read, so that nothing is written.
-const UNREAD: Case = Case {
-    status: 2,
-    note: Note::File { number: 1 },
-    written: b"",
-    ..EMPTY
-};
-
-/// The words as strings.
-fn strings(alloc: Global, words: &[&str]) -> Result<Vec<String>, AllocError> {
-    let mut strings = Vec::new(alloc);
-    for word in words {
-        strings.push(String::from_str(alloc, word)?)?;
-    }
-    Ok(strings)
-}
-
-/// Fails unless what must come of the case's run comes of it.
-fn expect_run(
-    rt: &impl Abort,
+/// Fails unless a run by these words over a file `f` of these bytes ends and writes so.
+fn expect_run<R: Abort + Threads + Wait + Sync>(
+    rt: &R,
     alloc: Global,
-    number: usize,
-    case: &Case,
-) -> Result<(), AllocError> {
-    let words = strings(alloc, case.words)?;
-    let mut files = MemFiles::new(alloc, case.failing_reads)?;
-    files.add(case.name, case.bytes)?;
-    let mut out = MemSink::new(alloc, case.room, case.failing_writes)?;
-    let outcome = run_plain(alloc, words.as_slice(), &mut files, &mut out);
-    assert_eq!(rt; outcome.status, case.status, "case {number}");
-    assert_eq!(rt; outcome.note, case.note, "case {number}");
-    assert_eq!(rt; out.bytes(), case.written, "case {number}");
-    Ok(())
-}
-
-/// Files and their reports.
-static REPORTS: [Case; 8] = [
-    THREE_NAMES,
-    EMPTY,
-    Case {
-        bytes: b"Aa BB",
-        written: b"symbols names=2 live=2 references=2\n\
-            symbols buckets=8 longest=2 average=0 rest=2\n\
-            strings literals=0 live=0\n\
-            strings buckets=8 longest=0 average=0 rest=0\n\
-            symbol log created=2 taken=0 dropped=0\n\
-            string log created=0 found=0 killed=0\n",
-        ..EMPTY
-    },
-    Case {
-        bytes: b"9x _y $z",
-        written: b"symbols names=2 live=2 references=2\n\
-            symbols buckets=8 longest=1 average=0 rest=2\n\
-            strings literals=0 live=0\n\
-            strings buckets=8 longest=0 average=0 rest=0\n\
-            symbol log created=2 taken=0 dropped=0\n\
-            string log created=0 found=0 killed=0\n",
-        ..EMPTY
-    },
-    Case {
-        bytes: b"\"q\\\"r",
-        written: b"symbols names=0 live=0 references=0\n\
-            symbols buckets=8 longest=0 average=0 rest=0\n\
-            strings literals=1 live=1\n\
-            strings buckets=8 longest=1 average=0 rest=1\n\
-            symbol log created=0 taken=0 dropped=0\n\
-            string log created=1 found=0 killed=0\n",
-        ..EMPTY
-    },
-    Case {
-        bytes: b"a b c d e f g h i j k l m n o p q",
-        written: b"symbols names=17 live=16 references=16\n\
-            symbols buckets=8 longest=2 average=2 rest=0\n\
-            strings literals=0 live=0\n\
-            strings buckets=8 longest=0 average=0 rest=0\n\
-            symbol log created=17 taken=0 dropped=1\n\
-            string log created=0 found=0 killed=0\n",
-        ..EMPTY
-    },
-    Case {
-        bytes: b"class A {\n  String s = \"hi\";\n  int f() { return g(s, \"hi\"); }\n}\n",
-        written: b"symbols names=9 live=8 references=9\n\
-            symbols buckets=8 longest=2 average=1 rest=0\n\
-            strings literals=2 live=1\n\
-            strings buckets=8 longest=1 average=0 rest=1\n\
-            symbol log created=8 taken=1 dropped=0\n\
-            string log created=1 found=1 killed=0\n",
-        ..EMPTY
-    },
-    Case {
-        bytes: b"\"a\" \"b\" \"c\" \"d\" \"e\" \"f\" \"g\" \"h\" \"i\" \
-            \"j\" \"k\" \"l\" \"m\" \"n\" \"o\" \"p\" \"q\" ",
-        written: b"symbols names=0 live=0 references=0\n\
-            symbols buckets=8 longest=0 average=0 rest=0\n\
-            strings literals=17 live=16\n\
-            strings buckets=8 longest=2 average=2 rest=0\n\
-            symbol log created=0 taken=0 dropped=0\n\
-            string log created=17 found=0 killed=1\n",
-        ..EMPTY
-    },
-];
-
-#[test]
-fn reports_of_files(rt: HostRuntime) -> Result<(), Fail> {
-    for (number, case) in REPORTS.iter().enumerate() {
-        expect_run(&rt, rt.alloc(), number, case)?;
-    }
-    Ok(())
-}
-
-#[test]
-fn limit_of_texts(rt: HostRuntime) -> Result<(), Fail> {
-    let cases = [
-        Case {
-            bytes: &LETTERS[1..],
-            written: b"symbols names=1 live=1 references=1\n\
-                symbols buckets=8 longest=1 average=0 rest=1\n\
-                strings literals=0 live=0\n\
-                strings buckets=8 longest=0 average=0 rest=0\n\
-                symbol log created=1 taken=0 dropped=0\n\
-                string log created=0 found=0 killed=0\n",
-            ..EMPTY
-        },
-        Case {
-            bytes: &LETTERS,
-            status: 4,
-            note: Note::Limit {
-                which: Limit::Text,
-                value: 65_536,
-            },
-            written: b"",
-            ..EMPTY
-        },
-    ];
-    for (number, case) in cases.iter().enumerate() {
-        expect_run(&rt, rt.alloc(), number, case)?;
-    }
-    Ok(())
-}
-
-/// The piece so many times.
-fn repeated(alloc: Global, piece: &[u8], times: usize) -> Result<Vec<u8>, AllocError> {
-    let mut bytes = Vec::new(alloc);
-    for _ in 0..times {
-        bytes.extend_from_slice(piece)?;
-    }
-    Ok(bytes)
-}
-
-/// Fails unless the file passes the limit by the value, and nothing is written.
-fn expect_limit(
-    rt: &impl Abort,
-    alloc: Global,
+    words: &[&str],
     bytes: &[u8],
-    which: Limit,
-    value: u64,
+    outcome: Outcome,
+    written: &[u8],
 ) -> Result<(), AllocError> {
-    let words = strings(alloc, EMPTY.words)?;
+    let words = strings(alloc, words)?;
     let mut files = MemFiles::new(alloc, &[])?;
-    files.add(EMPTY.name, bytes)?;
-    let mut out = MemSink::new(alloc, EMPTY.room, &[])?;
-    let outcome = run_plain(alloc, words.as_slice(), &mut files, &mut out);
-    assert_eq!(rt; outcome, Outcome::over_limit(which, value));
-    assert!(rt; out.bytes().is_empty());
-    Ok(())
-}
-
-#[test]
-fn limits_of_large_files(rt: HostRuntime) -> Result<(), Fail> {
-    let names = repeated(rt.alloc(), b"a ", 1_048_577)?;
-    expect_limit(&rt, rt.alloc(), names.as_slice(), Limit::Names, 1_048_577)?;
-    let literals = repeated(rt.alloc(), b"\"\"", 1_048_577)?;
-    expect_limit(
-        &rt,
-        rt.alloc(),
-        literals.as_slice(),
-        Limit::Literals,
-        1_048_577,
-    )?;
-    let spaces = vec![in rt.alloc(); b' '; 67_108_865]?;
-    expect_limit(&rt, rt.alloc(), spaces.as_slice(), Limit::Bytes, 67_108_865)?;
-    Ok(())
-}
-
-/// Words that are taken or not, and calls that fail.
-static REFUSALS: [Case; 15] = [
-    Case {
-        words: &[],
-        ..USAGE
-    },
-    Case {
-        words: &["plain"],
-        ..USAGE
-    },
-    Case {
-        words: &["plain", "f", "f"],
-        ..USAGE
-    },
-    Case {
-        words: &["report", "f"],
-        ..USAGE
-    },
-    Case {
-        words: &["f", "plain"],
-        ..USAGE
-    },
-    Case {
-        words: &["plain f"],
-        ..USAGE
-    },
-    Case {
-        words: &["Plain", "f"],
-        ..USAGE
-    },
-    Case {
-        words: &["plain", "plain"],
-        name: "plain",
-        ..EMPTY
-    },
-    Case {
-        words: &["plain", "--"],
-        name: "--",
-        ..EMPTY
-    },
-    Case {
-        words: &["plain", "g"],
-        ..UNREAD
-    },
-    Case {
-        failing_reads: &[1],
-        ..UNREAD
-    },
-    Case {
-        bytes: b"a",
-        failing_reads: &[2],
-        ..UNREAD
-    },
-    Case {
-        bytes: b"a",
-        failing_reads: &[3],
-        ..UNREAD
-    },
-    Case {
-        failing_writes: &[1],
-        status: 3,
-        written: b"",
-        ..THREE_NAMES
-    },
-    Case {
-        room: 10,
-        status: 3,
-        written: b"symbols na",
-        ..THREE_NAMES
-    },
-];
-
-#[test]
-fn refused_words_and_failing_calls(rt: HostRuntime) -> Result<(), Fail> {
-    for (number, case) in REFUSALS.iter().enumerate() {
-        expect_run(&rt, rt.alloc(), number, case)?;
-    }
+    files.add("f", bytes)?;
+    let mut out = MemSink::new(alloc, 1024, &[])?;
+    let answer = run(rt, alloc, words.as_slice(), &mut files, &mut out, &NoPace);
+    assert_eq!(rt; answer, outcome);
+    assert_eq!(rt; out.bytes(), written);
     Ok(())
 }
 
 #[test]
 fn run_of_plain(rt: HostRuntime) -> Result<(), Fail> {
-    let words = strings(rt.alloc(), THREE_NAMES.words)?;
-    let mut files = MemFiles::new(rt.alloc(), &[])?;
-    files.add("f", THREE_NAMES.bytes)?;
-    let mut out = MemSink::new(rt.alloc(), THREE_NAMES.room, &[])?;
-    let outcome = run(
+    let written = b"symbols names=3 live=2 references=3\n\
+        symbols buckets=8 longest=1 average=0 rest=2\n\
+        strings literals=0 live=0\n\
+        strings buckets=8 longest=0 average=0 rest=0\n\
+        symbol log created=2 taken=1 dropped=0\n\
+        string log created=0 found=0 killed=0\n";
+    expect_run(
         &rt,
         rt.alloc(),
-        words.as_slice(),
-        &mut files,
-        &mut out,
-        &NoPace,
-    );
-    assert_eq!(rt; outcome, Outcome::DONE);
-    assert_eq!(rt; out.bytes(), THREE_NAMES.written);
+        &["plain", "f"],
+        b"a b a",
+        Outcome::DONE,
+        written,
+    )?;
+    Ok(())
+}
+
+#[test]
+fn run_of_replay(rt: HostRuntime) -> Result<(), Fail> {
+    let script = b"shape counted 8 1 3 4 4 281474976710656\ncall 0 clean\nrun 0\n";
+    let written = b"0 spent 281474976710656\n";
+    expect_run(
+        &rt,
+        rt.alloc(),
+        &["replay", "f"],
+        script,
+        Outcome::DONE,
+        written,
+    )?;
+    let fault = Outcome::script_fault(1);
+    expect_run(&rt, rt.alloc(), &["replay", "f"], b"", fault, b"")?;
+    Ok(())
+}
+
+#[test]
+fn runs_of_other_words(rt: HostRuntime) -> Result<(), Fail> {
+    expect_run(&rt, rt.alloc(), &["report", "f"], b"a", Outcome::USAGE, b"")?;
+    expect_run(&rt, rt.alloc(), &["replay"], b"a", Outcome::USAGE, b"")?;
+    expect_run(
+        &rt,
+        rt.alloc(),
+        &["plain", "f", "f"],
+        b"a",
+        Outcome::USAGE,
+        b"",
+    )?;
     Ok(())
 }
