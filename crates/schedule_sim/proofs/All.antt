@@ -19,6 +19,7 @@ use Rattle.schedule_sim.specs.declared.script.Numbered.{Numbered}
 use Rattle.schedule_sim.specs.declared.script.Script.{Script}
 use Rattle.schedule_sim.specs.PrintedLines.{Printed, Tells, events_among}
 use Rattle.schedule_sim.specs.Turns.{Begins, Steps, Goes, Turns, AllTurn, Prints, Keeps, Opens, Stands, Runs, answered}
+use Rattle.schedule_sim.proofs.Opened.{opens_calm}
 use Rattle.schedule_sim.proofs.Texts.{more_lines, events_of_two, events_told}
 
 -- ONE MORE LINE
@@ -118,6 +119,6 @@ whole_run s c d text opens stands kept (items, all, is) = record {
   opens = opens;
   turns = all;
   printed = is;
-  log = all_told s.lines.items c items d all ∙ ap (λ l. l ++ events_among items) opens.log;
+  log = all_told s.lines.items c items d all ∙ ap (λ l. l ++ events_among items) (opens_calm s c opens);
   lawful = subst (λ t. IsShort d.log → IsLawful (kind_of t) d.log) (kept.table ∙ stands.table) (kept.lawful stands.lawful);
 }

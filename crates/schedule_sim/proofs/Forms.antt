@@ -1,13 +1,13 @@
 -- Parts that are no line, or no call, since their first word is that of another.
-use Rattle.std.proofs.Common.{◌≡◌, ◌≢◌, ℕ, List, [], ◌∷◌, false, sym, ◌∙◌, ap, arith, get_or, drop}
+use Rattle.std.proofs.Common.{◌≡◌, ◌≢◌, ℕ, List, ◌∷◌, false, sym, ◌∙◌, ap, arith, get_or, drop}
 use Rattle.std.specs.Str.{bytes_eq}
 use Rattle.std.proofs.lemmas.Slice.Eq.{bytes_eq-Decides}
 
 -- the first of equal lists, and the others
-pub head_of : (a b : List ℕ) (p q : List (List ℕ)) → a ∷ p ≡ b ∷ q → a ≡ b
-head_of a b p q is = ap (λ l. get_or l 0 []) is
+pub head_of : {A : Type 0} (a b : A) (p q : List A) → a ∷ p ≡ b ∷ q → a ≡ b
+head_of a b p q is = ap (λ l. get_or l 0 a) is
 
-pub tail_of : (a b : List ℕ) (p q : List (List ℕ)) → a ∷ p ≡ b ∷ q → p ≡ q
+pub tail_of : {A : Type 0} (a b : A) (p q : List A) → a ∷ p ≡ b ∷ q → p ≡ q
 tail_of a b p q is = ap (λ l. drop 1 l) is
 
 -- two words that differ

@@ -8,10 +8,17 @@ pub mod Openings
 pub mod ReadLines
 pub mod Exact
 pub mod All
+pub mod Draws
 pub mod Goes
+pub mod Lasting
 pub mod Made
 pub mod Moves
+pub mod OneMove
+pub mod OneTurn
+pub mod OneRun
 pub mod Opened
+pub mod SameLines
+pub mod SameRuns
 pub mod Texts
 pub mod Walks
 pub mod Wide

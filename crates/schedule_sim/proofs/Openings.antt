@@ -3,23 +3,30 @@ use Rattle.std.proofs.Common.{◌≡◌, ℕ, ◌+◌, ◌*◌, ◌<◌, ◌≤�
 use Rattle.std.specs.Prelude.{decimal}
 use Rattle.std.proofs.lemmas.Fmt.{decimal_injective}
 use Rattle.table_shape.specs.declared.shape.Shape.{Shape}
-use Rattle.table_shape.specs.Shape.{slots_from, slot_words}
-use Rattle.schedule_sim.specs.Script.{shape_parts, IsSmall, IsFit, IsFirstCounter}
+use Rattle.table_shape.specs.Shape.{IsSound, slots_from, slot_words}
+use Rattle.cht_core.specs.State.{IsFirstCounter}
+use Rattle.schedule_sim.specs.Fit.{IsFit}
+use Rattle.schedule_sim.specs.Script.{shape_parts, IsSmall}
 use Rattle.schedule_sim.proofs.Forms.{head_of, tail_of}
 
 -- a product with a number that is not 0 is no less
 no_less : (a b : ℕ) → 1 ≤ b → a ≤ a * b
 no_less a b some = grind arith
 
+-- a table has few slots
+pub few_slots : (shape : Shape) → IsSound shape → shape.slots < 2 ^ 32
+few_slots shape sound =
+    let words : slots_from shape + shape.slots * slot_words shape ≤ 2 ^ 27 = sound.small in
+    let product : shape.slots ≤ shape.slots * slot_words shape = no_less shape.slots (slot_words shape) (omega arith) in
+    omega arith
+
 pub fit_small : (shape : Shape) → IsFit shape → IsSmall shape
 fit_small shape fit =
-    let words : slots_from shape + shape.slots * slot_words shape ≤ 1048576 = fit.words in
-    let product : shape.slots ≤ shape.slots * slot_words shape = no_less shape.slots (slot_words shape) (omega arith) in
     let text = fit.sound.text.1 in
     let least = fit.sound.levels.0 in
     let most = fit.sound.levels.1 in
     let seats = fit.seats in
-    record { slots = omega arith; text_words = omega arith; min_level = omega arith; max_level = omega arith; seats = omega arith }
+    record { slots = few_slots shape fit.sound; text_words = omega arith; min_level = omega arith; max_level = omega arith; seats = omega arith }
 
 pub same_number : (a b : ℕ) (p q : List (List ℕ)) → a < 2 ^ 64 → b < 2 ^ 64 → decimal a ∷ p ≡ decimal b ∷ q → a ≡ b
 same_number a b p q small below is = decimal_injective a b small below (head_of _ _ p q is)
@@ -44,4 +51,4 @@ same_shape s t p q small below is =
     (same, tail_of _ _ _ _ five)
 
 pub same_counter : (a b : ℕ) → a < 2 ^ 64 → IsFirstCounter b → decimal a ∷ [] ≡ decimal b ∷ [] → a ≡ b
-same_counter a b small begins is = same_number a b [] [] small (omega (arith, begins.0)) is
+same_counter a b small begins is = same_number a b [] [] small (omega (arith, begins.1)) is

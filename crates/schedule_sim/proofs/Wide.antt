@@ -1,12 +1,17 @@
--- A handle that no table has begins no call.
-use Rattle.std.proofs.Common.{◌<◌, ◌≤◌, ◌^◌, ℕ, Option, Some, None, arith, refl}
+-- No call begins at a seat that no table has, nor by a handle that none has.
+use Rattle.std.proofs.Common.{◌<◌, ◌≤◌, ◌^◌, ℕ, length, Option, Some, None, arith, refl, sym, subst}
+use Rattle.std.proofs.lemmas.List.{get_or_past}
 use Rattle.call_machine.specs.declared.call.Call.TheVariants as call
 use Rattle.cht_core.specs.declared.seat.Seat.{Seat}
 use Rattle.cht_core.specs.declared.seat.Seat.TheVariants as doing
-use Rattle.cht_core.specs.State.{Core}
+use Rattle.cht_core.specs.State.{Core, seat_in}
 use Rattle.schedule_sim.specs.declared.script.Asked.{Asked}
 use Rattle.schedule_sim.specs.declared.script.Asked.TheVariants as asked
 use Rattle.schedule_sim.specs.Turns.{IsNotMet, IsWide}
+
+-- a number above 32 bits is of no seat
+pub no_seat : (c : Core) (asks : Asked) (k : ℕ) → length c.seats ≤ 256 → 2 ^ 32 ≤ k → IsNotMet c asks (seat_in c.seats k)
+no_seat c asks k few wide = subst (IsNotMet c asks) (sym (get_or_past c.seats k None (omega (arith, few, wide)))) tt
 
 too_wide : (slot slots : ℕ) → 2 ^ 32 ≤ slot → slots < 2 ^ 32 → slot < slots → ⊥
 too_wide slot slots wide small inside = omega arith

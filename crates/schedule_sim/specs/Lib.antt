@@ -1,7 +1,9 @@
 pub mod Parts
+pub mod Fit
 pub mod Line
 pub mod Lines
 pub mod Script
+pub mod Same
 pub mod PrintedLines
 pub mod Chains
 pub mod Turns

@@ -1,13 +1,14 @@
 -- Which script the bytes are, and which line is the first that is not of the form.
-use Rattle.std.specs.Prelude.{◌≡◌, ℕ, ◌+◌, ◌^◌, ◌<◌, ◌≤◌, ◌%◌, ◌⊎◌, List, [], ◌∷◌, ◌++◌, length, All, codes, decimal}
+use Rattle.std.specs.Prelude.{◌≡◌, ℕ, ◌+◌, ◌^◌, ◌<◌, ◌⊎◌, List, [], ◌∷◌, ◌++◌, length, All, codes, decimal}
 use Rattle.intern_log.specs.declared.event.Kind.{Kind}
 use Rattle.intern_log.specs.declared.event.Kind.TheVariants.{Counted, Weak}
 use Rattle.table_shape.specs.declared.shape.Shape.{Shape}
-use Rattle.table_shape.specs.Shape.{IsSound, words_of}
+use Rattle.cht_core.specs.State.{IsFirstCounter}
 use Rattle.schedule_sim.specs.declared.script.Script.{Script}
 use Rattle.schedule_sim.specs.declared.script.Numbered.{Numbered}
 use Rattle.schedule_sim.specs.declared.script.ScriptFault.{ScriptFault}
 use Rattle.schedule_sim.specs.declared.script.ScriptFault.TheVariants as faults
+use Rattle.schedule_sim.specs.Fit.{IsFit}
 use Rattle.schedule_sim.specs.Parts.{parts_at}
 use Rattle.schedule_sim.specs.Line.{IsLine, IsOfForm}
 use Rattle.schedule_sim.specs.Lines.{lines_of, told_lines}
@@ -33,16 +34,6 @@ pub record IsSmall (shape : Shape) : Type 0 where
   pub min_level : shape.min_level < 2 ^ 8
   pub max_level : shape.max_level < 2 ^ 8
   pub seats : shape.seats < 2 ^ 32
-
--- a script may be of a table of the shape
-pub record IsFit (shape : Shape) : Type 0 where
-  pub sound : IsSound shape
-  pub words : words_of shape ≤ 1048576
-  pub seats : shape.seats ≤ 16
-
--- a script may begin with the counter
-abbrev pub IsFirstCounter : ℕ → Type 0
-IsFirstCounter counter = (counter ≤ 2 ^ 48) × (counter % 2 ≡ 0)
 
 -- the bytes open a script of a table of the kind and the shape, with the counter
 pub record IsOpening (bytes : List ℕ) (kind : Kind) (shape : Shape) (counter : ℕ) : Type 0 where

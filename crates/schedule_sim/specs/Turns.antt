@@ -1,10 +1,10 @@
 -- What the lines of a script make of a table, each by its turn, and what they print.
-use Rattle.std.specs.Prelude.{◌≡◌, ◌≢◌, ◌⊎◌, ℕ, zero, suc, ◌≤◌, ◌<◌, ◌^◌, List, [], ◌∷◌, ◌++◌, map, length, Option, Some, None}
+use Rattle.std.specs.Prelude.{◌≡◌, ◌≢◌, ◌⊎◌, ℕ, zero, suc, ◌-◌, ◌≤◌, ◌<◌, ◌^◌, List, [], ◌∷◌, ◌++◌, map, length, Option, Some, None}
 use Rattle.std.specs.Borrow.{Bor}
 use Rattle.intern_log.specs.declared.event.Event.{Event}
 use Rattle.intern_log.specs.Lawful.{IsLawful}
 use Rattle.intern_log.specs.Short.{IsShort}
-use Rattle.table_shape.specs.Shape.{IsSound, words_of}
+use Rattle.table_shape.specs.Shape.{words_of}
 use Rattle.atomic_step.specs.declared.access.StepKind.{StepKind}
 use Rattle.call_machine.specs.declared.call.Call.{Call}
 use Rattle.call_machine.specs.declared.call.Call.TheVariants as call
@@ -155,35 +155,25 @@ IsAtFault (line.Run k) c = next_of c k ≡ None
 IsAtFault (line.Chain row bucket) c = ¬ (IsPresent c.table.shape c.words row bucket)
 IsAtFault line.Rehash c = ¬ (CanRehash c)
 
--- a number is drawn by seat 0
-abbrev pub IsOfSplit : Move → Type 0
-IsOfSplit (moves.Start k asked) = (k ≡ 0) × (asked ≡ call.Split)
-IsOfSplit (moves.Step k) = k ≡ 0
-IsOfSplit moves.Rehash = ⊥
-
 -- the table of a script
 abbrev pub table_of : Script → Table
 table_of s = record { kind = s.kind; shape = s.shape; first_counter = s.first_counter }
 
-abbrev pub AreOfSplit : List Move → Type 0
-AreOfSplit [] = Unit {0}
-AreOfSplit (move ∷ moves) = IsOfSplit move × AreOfSplit moves
+-- seat 0 draws one number; and so many, one after the other
+abbrev pub a_draw : List Move
+a_draw = moves.Start 0 call.Split ∷ moves.Step 0 ∷ moves.Step 0 ∷ []
 
--- numbers are drawn, and nothing else happens
-pub record Splits (c d : Core) : Type 0 where
-  pub moves : List Move
-  pub leads : LeadsTo c moves d
-  pub splits : AreOfSplit moves
+abbrev pub draws : ℕ → List Move
+draws zero = []
+draws (suc n) = draws n ++ a_draw
 
--- each number of a table is drawn
+-- the state before the first line: in a new table seat 0 has drawn all numbers but its own, and nothing else has happened
+abbrev pub Opens : Script → Core → Type 0
+Opens s c = LeadsTo (opening_of (table_of s)) (draws (s.shape.seats - 1)) c
+
+-- each number below a bound is drawn
 abbrev pub AreDrawn : ℕ → Core → Type 0
 AreDrawn seats c = (k : ℕ) → k < seats → seat_in c.seats k ≢ None
-
--- the state before the first line: seat 0 has drawn the numbers, and nothing is in the log
-pub record Opens (s : Script) (c : Core) : Type 0 where
-  pub splits : Splits (opening_of (table_of s)) c
-  pub drawn : AreDrawn s.shape.seats c
-  pub log : c.log ≡ []
 
 -- a run of a whole script: its lines have their turns, and the events that are printed are the whole log, which is lawful while it has few Creates
 pub record Runs (s : Script) (text : List ℕ) : Type 0 where
@@ -239,7 +229,6 @@ IsLegal c = IsShort c.log → IsLawful (kind_of c.table) c.log
 -- a state of the table of a script
 pub record Stands (s : Script) (c : Core) : Type 0 where
   pub table : c.table ≡ table_of s
-  pub sound : IsSound s.shape
   pub sized : length c.words ≡ words_of s.shape
   pub seats : length c.seats ≡ s.shape.seats
   pub lawful : IsLegal c

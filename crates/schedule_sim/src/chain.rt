@@ -21,7 +21,6 @@ pub(crate) fn present(words: &[u64], shape: &Shape, row: u64, bucket: u64) -> Op
     ensures value { IfSome result (λ found. (found.0 ≡ row) × (found.1 ≡ bucket) × IsPresent shape.now words.now row bucket) }
     ensures none { IfNone result (¬ (IsPresent shape.now words.now row bucket)) }
 {
-    let _most = shape.max_level;
     let Ok(row) = u8::try_from(row) else {
         return None;
     };

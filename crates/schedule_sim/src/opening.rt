@@ -2,7 +2,9 @@
 ghost use Rattle.std.specs.Prelude.{◌≡◌, ◌≢◌, ◌≤◌, ◌+◌, ◌↔◌, ℕ, [], ◌∷◌, List, None, IfSome, IsTrue, decimal};
 ghost use Rattle.intern_log.specs.declared.event.Kind.{Kind};
 ghost use Rattle.table_shape.specs.declared.shape.Shape.{Shape};
-ghost use Rattle.schedule_sim.specs.Script.{table_word, shape_parts, IsSmall, IsFit, IsFirstCounter, IsOpening, OpensNone};
+ghost use Rattle.cht_core.specs.State.{IsFirstCounter};
+ghost use Rattle.schedule_sim.specs.Fit.{IsFit};
+ghost use Rattle.schedule_sim.specs.Script.{table_word, shape_parts, IsSmall, IsOpening, OpensNone};
 
 use crate::cut::{Parts, is_word};
 use crate::number::{last_number, next_u8, next_u32};
@@ -74,7 +76,7 @@ fn is_fit(shape: &Shape) -> bool
 fn is_first_counter(counter: u64) -> bool
     ensures { IsTrue result ↔ IsFirstCounter counter }
 {
-    counter <= MOST_COUNTER && counter % 2 == 0
+    counter % 2 == 0 && counter <= MOST_COUNTER
 }
 
 /// The opening that the line writes, where it is of the form.

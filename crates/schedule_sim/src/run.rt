@@ -1,19 +1,20 @@
 //! Running a script: each line by its turn, on a table as plain data.
-ghost use Rattle.std.specs.Prelude.{◌≡◌, ◌≢◌, ◌≤◌, ◌<◌, ◌++◌, ◌^◌, IfOk, IfErr, IfSome, IfNone, IsTrue, ◌↔◌, List, [], Some, None, length};
+ghost use Rattle.std.specs.Prelude.{◌≡◌, ◌≢◌, ◌≤◌, ◌<◌, ◌++◌, ◌^◌, IfOk, IfErr, IfSome, IfNone, IsTrue, ◌↔◌, List, Some, None, length};
 ghost use Rattle.table_shape.specs.Shape.{IsSound, words_of};
 ghost use Rattle.cht_core.specs.declared.state.Started.{Started};
-ghost use Rattle.cht_core.specs.State.{CanRehash, StartsAs, seat_in};
+ghost use Rattle.cht_core.specs.Runs.{LeadsTo};
+ghost use Rattle.cht_core.specs.State.{CanRehash, StartsAs, opening_of, seat_in};
 ghost use Rattle.schedule_sim.specs.PrintedLines.{lines_of};
 ghost use Rattle.schedule_sim.specs.Chains.{IsPresent};
-ghost use Rattle.schedule_sim.specs.Turns.{Asks, Begins, Calls, Steps, GoesFor, GoesUntil, MakesAnew, ShowsChain, Turns, AllTurn, IsFaultIn, IsNotMet, IsRefused, IsWide, Refuses, Prints, Keeps, Stops, answered, IsLegal, Splits, Stands, AreDrawn, Opens, Runs, IsFaultOf, next_of};
+ghost use Rattle.schedule_sim.specs.Turns.{Asks, Begins, Calls, Steps, GoesFor, GoesUntil, MakesAnew, ShowsChain, Turns, AllTurn, IsFaultIn, IsNotMet, IsRefused, IsWide, Refuses, Prints, Keeps, Stops, answered, Stands, Opens, Runs, IsFaultOf, a_draw, next_of, table_of};
 
 use crate::chain::{present, texts_of_chain};
 use crate::print::{push_answer, push_chain, push_new};
 use crate::script::{Asked, Line, Numbered, Script, ScriptFault};
 use atomic_step::{Shape, StepKind};
 use call_machine::Call;
-use cht_core::{Rehashing, Started, State, Stepped};
-use intern_log::{Event, Handle};
+use cht_core::{MakeFault, Rehashing, Started, State, Stepped};
+use intern_log::Handle;
 use std::alloc::{AllocError, Global};
 
 /// Why a line is not run to its end.
@@ -80,86 +81,45 @@ fn run_lines<'t>(
     Ok(())
 }
 
-/// The table of a script before its first line: all its numbers are drawn.
+/// The table of a script before its first line: seat 0 has drawn all numbers but its own.
 fn opened<'t>(alloc: Global, script: &Script) -> Result<State<'t>, ScriptFault>
     ensures opens { IfOk result (λ state. Opens script.now state) }
-    ensures sized { IfOk result (λ state. Stands script.now state) }
+    ensures stands { IfOk result (λ state. Stands script.now state) }
     ensures fault { IfErr result (λ fault. fault ≡ ScriptFault.OutOfMemory) }
 {
-    let Ok(_) = script.shape.check() else {
-        return Err(ScriptFault::OutOfMemory);
-    };
-    let Ok(mut state) = State::new(alloc, script.kind, script.shape, script.first_counter) else {
-        return Err(ScriptFault::OutOfMemory);
-    };
+    let mut state = made(alloc, script)?;
     for _ in 1..script.shape.seats {
-        draw_seat(&mut state)?;
+        draw_number(&mut state)?;
     }
-    are_drawn(&mut state, script.shape.seats)?;
-    is_calm(&mut state)?;
     Ok(state)
 }
 
-/// Sees that each number is drawn.
-fn are_drawn(state: &mut State<'_>, seats: u32) -> Result<(), ScriptFault>
-    ensures drawn { IfOk result (λ _. (state.new ≡ state.old) × AreDrawn seats state.new) }
+/// The table of a script as it is made. There is such a table, so a fault is want of memory.
+fn made<'t>(alloc: Global, script: &Script) -> Result<State<'t>, ScriptFault>
+    ensures made { IfOk result (λ state. state ≡ opening_of (table_of script.now)) }
     ensures fault { IfErr result (λ fault. fault ≡ ScriptFault.OutOfMemory) }
 {
-    for number in 0..seats {
-        is_drawn(state, number)?;
+    match State::new(alloc, script.kind, script.shape, script.first_counter) {
+        Ok(state) => Ok(state),
+        Err(MakeFault::Shape(_)) => unreachable!(),
+        Err(MakeFault::BadCounter { .. }) => unreachable!(),
+        Err(MakeFault::OutOfMemory) => Err(ScriptFault::OutOfMemory),
     }
-    Ok(())
 }
 
-/// Sees that a number is drawn. A seat without an unfinished work is refused a poll of it, and nothing changes.
-fn is_drawn(state: &mut State<'_>, number: u32) -> Result<(), ScriptFault>
-    ensures drawn { IfOk result (λ _. (state.new ≡ state.old) × (seat_in state.old.seats number ≢ None)) }
+/// Draws one number by seat 0: its call and the two steps of it.
+fn draw_number(state: &mut State<'_>) -> Result<(), ScriptFault>
+    ensures leads { IfOk result (λ _. LeadsTo state.old a_draw state.new) }
     ensures fault { IfErr result (λ fault. fault ≡ ScriptFault.OutOfMemory) }
 {
-    let Started::Refused = state.start(number, Call::PollWork) else {
+    let _ = state.start(0, Call::Split);
+    let Ok(_) = state.step(0) else {
+        return Err(ScriptFault::OutOfMemory);
+    };
+    let Ok(_) = state.step(0) else {
         return Err(ScriptFault::OutOfMemory);
     };
     Ok(())
-}
-
-/// Sees that nothing is in the log. A step of a seat without a running call changes nothing.
-fn is_calm(state: &mut State<'_>) -> Result<(), ScriptFault>
-    ensures calm { IfOk result (λ _. (state.new ≡ state.old) × (state.new.log ≡ [])) }
-    ensures lawful { IfOk result (λ _. IsLegal state.new) }
-    ensures fault { IfErr result (λ fault. fault ≡ ScriptFault.OutOfMemory) }
-{
-    let Ok(Stepped::Idle) = state.step(0) else {
-        return Err(ScriptFault::OutOfMemory);
-    };
-    if has_none(state.log()) {
-        return Ok(());
-    }
-    Err(ScriptFault::OutOfMemory)
-}
-
-/// Whether a log has no events.
-fn has_none(log: &[Event]) -> bool
-    ensures exact { IsTrue result ↔ (log.now ≡ []) }
-{
-    log.is_empty()
-}
-
-/// Draws the number of one more seat by seat 0.
-fn draw_seat(state: &mut State<'_>) -> Result<(), ScriptFault>
-    ensures leads { IfOk result (λ _. Splits state.old state.new) }
-    ensures fault { IfErr result (λ fault. fault ≡ ScriptFault.OutOfMemory) }
-{
-    let Started::Started = state.start(0, Call::Split) else {
-        return Err(ScriptFault::OutOfMemory);
-    };
-    for _ in 0..4 {
-        match state.step(0) {
-            Ok(Stepped::Moved) => {}
-            Ok(Stepped::Answered(_)) => return Ok(()),
-            _ => return Err(ScriptFault::OutOfMemory),
-        }
-    }
-    Err(ScriptFault::OutOfMemory)
 }
 
 /// Runs a line by its turn, and prints what it makes.
@@ -178,8 +138,6 @@ fn run_line<'t>(
     ensures kept { IfOk result (λ _. Keeps state.old state.new) }
     ensures fault { IfErr result (Refuses line.now state.old) }
 {
-    let _seats = shape.seats;
-    let _slots = shape.slots;
     match line {
         Line::Call { seat, asked } => begin_asked(alloc, state, shape, *seat, asked, out),
         Line::Step { seat, steps } => make_steps(alloc, state, *seat, *steps, out),
@@ -241,14 +199,13 @@ fn begin_asked<'t>(
     asked: &'t Asked,
     out: &mut Vec<u8>,
 ) -> Result<(), LineFault>
+    requires shape { IsSound shape.now }
     requires of { state.old.table.shape ≡ shape.now }
-    requires slots { shape.now.slots < 2 ^ 32 }
     requires seats { length state.old.seats ≡ shape.now.seats }
     ensures made { IfOk result (λ _. Prints (λ items. Calls seat asked.now state.old items state.new) out.old.items out.new.items) }
     ensures kept { IfOk result (λ _. Keeps state.old state.new) }
     ensures fault { IfErr result (λ fault. fault ≡ LineFault.AtFault → IsNotMet state.old asked.now (seat_in state.old.seats seat)) }
 {
-    let _seats = shape.seats;
     let Ok(seat) = seat_of(seat) else {
         return Err(LineFault::AtFault);
     };

@@ -1,5 +1,7 @@
 //! A script as it was read.
 ghost use Rattle.std.specs.Prelude.{◌≡◌};
+ghost use Rattle.cht_core.specs.State.{IsFirstCounter};
+ghost use Rattle.schedule_sim.specs.Fit.{IsFit};
 
 use atomic_step::{Shape, StepKind};
 use intern_log::Kind;
@@ -24,7 +26,7 @@ impl From<AllocError> for ScriptFault {
     }
 }
 
-/// A table, and what is done with it, line by line.
+/// A table, and what is done with it, line by line. The shape and the first counter are ones of a script.
 #[derive(Debug, Drop)]
 pub struct Script {
     pub(crate) kind: Kind,
@@ -32,6 +34,8 @@ pub struct Script {
     pub(crate) first_counter: u64,
     /// The lines after the first one that was not passed over, without those that are passed over.
     pub(crate) lines: Vec<Numbered>,
+    ghost fit: { IsFit shape },
+    ghost begins: { IsFirstCounter first_counter },
 }
 
 /// A line and its number in the script, counted from 1.

@@ -1,5 +1,6 @@
 use Rattle.std.proofs.Common.{◌≡◌, sym, ◌∙◌, subst, false, IsTrue}
-use Rattle.schedule_sim.specs.Script.{IsFit, IsFirstCounter}
+use Rattle.cht_core.specs.State.{IsFirstCounter}
+use Rattle.schedule_sim.specs.Fit.{IsFit}
 use Rattle.schedule_sim.proofs.Forms.{peel}
 use Rattle.schedule_sim.proofs.Openings.{fit_small, same_shape, same_counter}
 use Rattle.schedule_sim.proofs.opening.opening_of.Goals as goal
