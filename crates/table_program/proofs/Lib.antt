@@ -17,3 +17,5 @@ pub mod LongTexts
 pub mod FileReports
 pub mod CommandWords
 pub mod ReplayFaults
+pub mod FailsAlike
+pub mod OneReplay

@@ -8,7 +8,7 @@ use Rattle.schedule_sim.specs.Script.{IsScript}
 use Rattle.schedule_sim.specs.Turns.{IsFaultOf}
 use Rattle.table_program.specs.declared.outcome.Outcome.{Outcome}
 use Rattle.table_program.specs.Runs.{IsOneOf}
-use Rattle.table_program.specs.ReplayRun.{TellsScriptFault, outcome_of}
+use Rattle.table_program.specs.ReplayRun.{HasScriptFault, TellsScriptFault, outcome_of}
 
 -- the note of a run that was refused tells the line that is at fault as its turn comes
 pub tells_turn : (bytes : List ℕ) (script : Script) (why : ScriptFault) → IsScript bytes script → IsFaultOf script why →
@@ -34,3 +34,13 @@ no_write_fault (Some x) IsWithin Other Rises status is rises = λ within other n
   where
     without_three : (n : ℕ) → IsOneOf (0 ∷ 3 ∷ 6 ∷ 8 ∷ []) n → n ≢ 3 → IsOneOf (0 ∷ 6 ∷ 8 ∷ []) n
     without_three n one_of never = grind arith
+
+-- what a fault leaves of the statuses where the bytes were read, as a fact of the file that is told
+pub of_read : (found : Option (List ℕ)) (read : List ℕ) (status : ℕ) → IfSome found (λ all. read ≡ all) →
+    ((number : ℕ) → HasScriptFault read number → IsOneOf (6 ∷ 8 ∷ []) status) →
+    IfSome found (λ bytes. (number : ℕ) → HasScriptFault bytes number → IsOneOf (2 ∷ 4 ∷ 6 ∷ 8 ∷ []) status)
+of_read None read status is faulty = tt
+of_read (Some all) read status is faulty = λ number fault. with_more status (faulty number (subst (λ bytes. HasScriptFault bytes number) (sym is) fault))
+  where
+    with_more : (n : ℕ) → IsOneOf (6 ∷ 8 ∷ []) n → IsOneOf (2 ∷ 4 ∷ 6 ∷ 8 ∷ []) n
+    with_more n one_of = grind arith

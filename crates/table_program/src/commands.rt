@@ -6,7 +6,7 @@ ghost use Rattle.table_program.specs.declared.command.Command.{Command};
 ghost use Rattle.table_program.specs.declared.command.Command.TheVariants.{Plain, Replay};
 ghost use Rattle.table_program.specs.Words.{name_for, IsNoCommand};
 ghost use Rattle.table_program.specs.Runs.{told_file, NamedRose, limit_note, complete_statuses, IsOneOf, IsRunNote, Writes, WritesPartOf};
-ghost use Rattle.table_program.specs.ReplayRun.{IsReplay, TellsScriptFault};
+ghost use Rattle.table_program.specs.ReplayRun.{IsReplay, HasScriptFault, TellsScriptFault};
 
 use crate::command::Command;
 use crate::outcome::Outcome;
@@ -55,6 +55,8 @@ pub fn run<R: Threads + Wait + Sync, F: Files, K: Sink, P: Pace>(
     ensures script_fault { result.status ≡ 8 →
         IfSome (told_file Replay (F.bytes_of files.old) words.now)
         (λ bytes. TellsScriptFault bytes result.note) }
+    ensures faulty { IfSome (told_file Replay (F.bytes_of files.old) words.now)
+        (λ bytes. (number : ℕ) → HasScriptFault bytes number → IsOneOf (2 ∷ 4 ∷ 6 ∷ 8 ∷ []) result.status) }
     ensures read_to_end { result.status ≡ 0 → (command : Command)
         → IsSome (told_file command (F.bytes_of files.old) words.now) → F.rest files.new ≡ Some [] }
     ensures untouched { result.status ≢ 0 → result.status ≢ 3 → out.new ≡ out.old }

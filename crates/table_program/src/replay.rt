@@ -4,7 +4,7 @@ ghost use Rattle.io_edge.specs.Faults.{Rose};
 ghost use Rattle.table_program.specs.declared.command.Command.TheVariants as command;
 ghost use Rattle.table_program.specs.Words.{name_for};
 ghost use Rattle.table_program.specs.Runs.{told_file, NamedRose, limit_note, IsOneOf, IsRunNote, Writes, WritesPartOf};
-ghost use Rattle.table_program.specs.ReplayRun.{IsReplay, TellsScriptFault};
+ghost use Rattle.table_program.specs.ReplayRun.{IsReplay, HasScriptFault, TellsScriptFault};
 
 use crate::command::{Command, refused, write_text};
 use crate::limits::MOST_BYTES;
@@ -31,6 +31,7 @@ fn write_printed<K: Sink>(alloc: Global, bytes: &[u8], out: &mut K) -> Outcome
     ensures part_of_replay { result.status ≡ 3 → WritesPartOf (IsReplay bytes.now) (K.written out.old) (K.written out.new) }
     ensures write_fault { result.status ≡ 3 → Rose (K.faults out.old) (K.faults out.new) }
     ensures script_fault { result.status ≡ 8 → TellsScriptFault bytes.now result.note }
+    ensures faulty { (number : ℕ) → HasScriptFault bytes.now number → IsOneOf (6 ∷ 8 ∷ []) result.status }
     ensures untouched { result.status ≢ 0 → result.status ≢ 3 → out.new ≡ out.old }
     ensures statuses { IsOneOf (0 ∷ 3 ∷ 6 ∷ 8 ∷ []) result.status }
     ensures note { IsRunNote result.status result.note }
@@ -76,6 +77,8 @@ pub fn run_replay<F: Files, K: Sink>(
     ensures script_fault { result.status ≡ 8 →
         IfSome (told_file command.Replay (F.bytes_of files.old) words.now)
         (λ bytes. TellsScriptFault bytes result.note) }
+    ensures faulty { IfSome (told_file command.Replay (F.bytes_of files.old) words.now)
+        (λ bytes. (number : ℕ) → HasScriptFault bytes number → IsOneOf (2 ∷ 4 ∷ 6 ∷ 8 ∷ []) result.status) }
     ensures untouched { result.status ≢ 0 → result.status ≢ 3 → out.new ≡ out.old }
 
     // Where the words are accepted, the limit is kept and no count of faults rose, only memory can be wanting, or a line is at fault.
