@@ -1,6 +1,6 @@
 -- Words are those of one command at most.
 use Rattle.std.proofs.Common.{◌≡◌, ℕ, List, [], ◌∷◌, Bool, true, false, ap, refl, map}
-use Rattle.std.specs.Prelude.{Option, Some, None, IsSome, if◌then◌else◌, codes, String, string_bytes}
+use Rattle.std.specs.Prelude.{Some, None, IsSome, if◌then◌else◌, codes, String, string_bytes}
 use Rattle.std.specs.Str.{bytes_eq}
 use Rattle.std.proofs.lemmas.Slice.Eq.{bytes_eq-Decides}
 use Rattle.table_program.specs.declared.command.Command.TheVariants.{Plain, Replay}

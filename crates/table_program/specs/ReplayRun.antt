@@ -1,5 +1,5 @@
 -- What a run of `replay` makes of a file's bytes.
-use Rattle.std.specs.Prelude.{◌≡◌, ◌⊎◌, ℕ, List}
+use Rattle.std.specs.Prelude.{◌⊎◌, ℕ, List}
 use Rattle.schedule_sim.specs.declared.script.Script.{Script}
 use Rattle.schedule_sim.specs.declared.script.ScriptFault.{ScriptFault}
 use Rattle.schedule_sim.specs.declared.script.ScriptFault.TheVariants as fault

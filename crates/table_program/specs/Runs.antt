@@ -1,11 +1,10 @@
 -- What a run of a command does: which file it reads, how it ends, and what it writes.
-use Rattle.std.specs.Prelude.{String, ◌≡◌, ℕ, nat_eq, nat_lt, List, [], ◌∷◌, ◌++◌, Option, Some, None, length, option_map, IfSome, IsTrue, if◌then◌else◌}
+use Rattle.std.specs.Prelude.{String, ◌≡◌, ℕ, nat_eq, List, [], ◌∷◌, ◌++◌, Option, option_map, IfSome, IsTrue}
 use Rattle.std.specs.Option.{option_and_then}
 use Rattle.std.specs.List.{list_any}
 use Rattle.io_edge.specs.Faults.{Rose}
 use Rattle.table_program.specs.declared.command.Command.{Command}
 use Rattle.table_program.specs.declared.command.Command.TheVariants.{Plain, Replay}
-use Rattle.table_program.specs.declared.outcome.Limit.TheVariants.{Bytes}
 use Rattle.table_program.specs.declared.outcome.Note.{Note}
 use Rattle.table_program.specs.declared.outcome.Note.TheVariants as note
 use Rattle.table_program.specs.declared.reading.ReadFault.{ReadFault}
