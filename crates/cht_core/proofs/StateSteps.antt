@@ -2,7 +2,7 @@
 use Rattle.std.proofs.Common.{◌≡◌, ◌≢◌, ℕ, ◌+◌, ◌%◌, ◌<◌, ◌≤◌, ◌^◌, ◌⊎◌, Bool, true, false, cond, ◌||◌, nat_eq, nat_lt, List, [], ◌∷◌, ◌++◌, length}
 use Rattle.std.proofs.Common.{get_or, set, Option, Some, None, inl, inr, refl, sym, ap, subst, ◌∙◌, arith}
 use Rattle.std.proofs.lemmas.Bool.{cases_eq, ltb-true, ltb-false, ne_eqb}
-use Rattle.std.proofs.lemmas.List.{get_or_read, length-set, set-set}
+use Rattle.std.proofs.lemmas.List.{get_or_read, length-set}
 use Rattle.table_shape.specs.declared.place.Place.TheVariants as place
 use Rattle.table_shape.specs.declared.shape.Shape.{Shape}
 use Rattle.table_shape.specs.Place.{index_of}
@@ -355,14 +355,10 @@ running_goes c core k machine p a at is answered =
     absurd (cc)
 
 -- the step over what was read and written on the way
-module _ (law : StepLaw) (fit : FitLaw) (c : Core) (core : IsCore c) (k : ℕ) (machine machine' : Machine) (at : seat_in c.seats k ≡ Some (doing.Running machine))
-    (at' : seat_in c.seats k ≡ Some (doing.Running machine'))
+module _ (law : StepLaw) (fit : FitLaw) (c : Core) (core : IsCore c) (k : ℕ) (machine : Machine) (at : seat_in c.seats k ≡ Some (doing.Running machine))
     (s : Step) (planned : plan_of machine ≡ plan.Step s) (op : Op) (is_op : op ≡ op_at c.table.shape (access_of s)) (index : ℕ) (is_index : index ≡ index_in op) where
   abbrev found_word : ℕ
   found_word = word_at c.table.shape (access_of s).place c.words
-
-  same_machine : machine' ≡ machine
-  same_machine = cc
 
   index_is : index ≡ index_of c.table.shape (access_of s).place
   index_is = is_index ∙ ap index_in is_op ∙ index_in_op (index_of c.table.shape (access_of s).place) (access_of s).deed
@@ -374,13 +370,13 @@ module _ (law : StepLaw) (fit : FitLaw) (c : Core) (core : IsCore c) (k : ℕ) (
     word_is : word ≡ found_word
     word_is = get_or_read c.words index word code_index is_word 0 ∙ ap (λ i. get_or c.words i 0) index_is
 
-    pub code_fits : FitsMachine machine' word
-    code_fits = subst (λ (x : Machine). FitsMachine x word) (sym same_machine) (subst (FitsMachine machine) (sym word_is) (step_fits law fit c core k machine s at planned))
+    pub code_fits : FitsMachine machine word
+    code_fits = subst (FitsMachine machine) (sym word_is) (step_fits law fit c core k machine s at planned)
 
-    module _ (after : ℕ) (event : Option What) (log : List Event) (taken : Option Seat) (next : Seat) (seats : List (Option Seat)) (is_after : after ≡ word_after (deed_in op) word)
+    module _ (after : ℕ) (event : Option What) (log : List Event) (next : Option Seat) (seats : List (Option Seat)) (is_after : after ≡ word_after (deed_in op) word)
         (is_event : event ≡ event_of machine word)
-        (is_log : log ≡ c.log ++ events_of k event) (is_next : next ≡ seat_after (got_of machine' word))
-        (is_seats : seats ≡ with_drawn c.table.shape (drawn_in c.table.shape s word) (set (set c.seats k taken) k (Some next))) where
+        (is_log : log ≡ c.log ++ events_of k event) (is_next : next ≡ Some (seat_after (got_of machine word)))
+        (is_seats : seats ≡ with_drawn c.table.shape (drawn_in c.table.shape s word) (set c.seats k next)) where
       after_is : after ≡ word_after (access_of s).deed found_word
       after_is = is_after ∙ ap (λ (o : Op). word_after (deed_in o) word) is_op
           ∙ ap (λ (d : Deed). word_after d word) (deed_in_op (index_of c.table.shape (access_of s).place) (access_of s).deed) ∙ ap (word_after (access_of s).deed) word_is
@@ -388,12 +384,12 @@ module _ (law : StepLaw) (fit : FitLaw) (c : Core) (core : IsCore c) (k : ℕ) (
       words_is : set c.words index after ≡ words_after c.table.shape s c.words
       words_is = ap (λ i. set c.words i after) index_is ∙ ap (set c.words (index_of c.table.shape (access_of s).place)) after_is
 
-      next_is : next ≡ seat_after (got_of machine found_word)
-      next_is = is_next ∙ ap (λ (x : Machine). seat_after (got_of x word)) same_machine ∙ ap (λ w. seat_after (got_of machine w)) word_is
+      next_is : next ≡ Some (seat_after (got_of machine found_word))
+      next_is = is_next ∙ ap (λ w. Some (seat_after (got_of machine w))) word_is
 
       seats_is : seats ≡ (after_step c k machine s found_word).seats
-      seats_is = is_seats ∙ ap (λ w. with_drawn c.table.shape (drawn_in c.table.shape s w) (set (set c.seats k taken) k (Some next))) word_is
-          ∙ ap (with_drawn c.table.shape (drawn_in c.table.shape s found_word)) (set-set c.seats k taken (Some next) ∙ ap (λ (n : Seat). set c.seats k (Some n)) next_is)
+      seats_is = is_seats ∙ ap (λ w. with_drawn c.table.shape (drawn_in c.table.shape s w) (set c.seats k next)) word_is
+          ∙ ap (λ (n : Option Seat). with_drawn c.table.shape (drawn_in c.table.shape s found_word) (set c.seats k n)) next_is
 
       log_is : log ≡ c.log ++ events_of k (event_of machine found_word)
       log_is = is_log ∙ ap (λ (e : Option What). c.log ++ events_of k e) (is_event ∙ ap (event_of machine) word_is)
@@ -404,7 +400,7 @@ module _ (law : StepLaw) (fit : FitLaw) (c : Core) (core : IsCore c) (k : ℕ) (
       pub code_core : IsCore (record c { words = set c.words index after; seats = seats; log = log })
       code_core = subst IsCore (sym new_is) (stepped_core law fit c core k machine s at planned)
 
-      pub code_said : (said : Stepped) (answer : Option Answer) → said ≡ stepped_by answer → answer ≡ answer_by (plan_of (got_of machine' word))
+      pub code_said : (said : Stepped) (answer : Option Answer) → said ≡ stepped_by answer → answer ≡ answer_by (plan_of (got_of machine word))
           → StepsAs c k (seat_in c.seats k) said (record c { words = set c.words index after; seats = seats; log = log })
       code_said said answer says is_answer = stepped_as_said law fit c core k machine s at planned said (record c { words = set c.words index after; seats = seats; log = log })
-          (says ∙ ap stepped_by (is_answer ∙ ap (λ (x : Machine). answer_by (plan_of (got_of x word))) same_machine ∙ ap (λ w. answer_by (plan_of (got_of machine w))) word_is)) new_is
+          (says ∙ ap stepped_by (is_answer ∙ ap (λ w. answer_by (plan_of (got_of machine w))) word_is)) new_is

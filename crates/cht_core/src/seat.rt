@@ -64,12 +64,37 @@ pub(crate) fn begun<'t>(
     at_rest(Machine::start(table.kind, &table.shape, seed, own, call))
 }
 
-/// A seat after its call was told the word that its step found, and the answer of a call that has answered.
-pub(crate) fn after_word<'t>(mut machine: Machine<'t>, word: u64) -> (Seat<'t>, Option<Answer>)
-    requires fits { FitsMachine machine word }
-    ensures seat { result.0 ≡ seat_after (machines.got_of machine.entry word) }
-    ensures answer { result.1 ≡ answer_by (machines.plan_of (machines.got_of machine.entry word)) }
+/// Tells the call of a seat the word that its step found. The answer of a call that has answered comes out, and its seat
+/// is between its calls again. Else the call stays where it is in memory.
+pub(crate) fn advance<'t>(seat: &mut Option<Seat<'t>>, word: u64) -> Option<Answer>
+    requires fits { (machine : Machine) × (seat.old ≡ Some (Seat.Running machine)) × FitsMachine machine word }
+    ensures seat { (machine : Machine) → seat.old ≡ Some (Seat.Running machine) → seat.new ≡ Some (seat_after (machines.got_of machine word)) }
+    ensures answer { (machine : Machine) → seat.old ≡ Some (Seat.Running machine) → result ≡ answer_by (machines.plan_of (machines.got_of machine word)) }
 {
-    machine.got(word);
-    at_rest(machine)
+    if let Some(Seat::Running { machine }) = seat {
+        machine.got(word);
+        if let Plan::Step(_) = machine.plan() {
+            return None;
+        }
+    }
+    rested(seat)
+}
+
+/// The answer of a seat's call that has answered. The seat is between its calls again. It moves the whole machine, so it
+/// stands apart from the steps that move none.
+#[inline(never)]
+fn rested<'t>(seat: &mut Option<Seat<'t>>) -> Option<Answer>
+    requires running { (machine : Machine) × (seat.old ≡ Some (Seat.Running machine)) }
+    ensures seat { (machine : Machine) → seat.old ≡ Some (Seat.Running machine) → seat.new ≡ Some (seat_after machine) }
+    ensures answer { (machine : Machine) → seat.old ≡ Some (Seat.Running machine) → result ≡ answer_by (machines.plan_of machine) }
+{
+    let Some(taken) = seat.take() else {
+        unreachable!()
+    };
+    let Seat::Running { machine } = taken else {
+        unreachable!()
+    };
+    let (next, answer) = at_rest(machine);
+    *seat = Some(next);
+    answer
 }

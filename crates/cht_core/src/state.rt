@@ -13,7 +13,7 @@ ghost use Rattle.cht_core.specs.State.{seat_in, IsFirstCounter, IsMakeFault, ope
 
 use crate::condition::can_start;
 use crate::rehash::{Rehashing, are_free, has_dead, make_anew};
-use crate::seat::{Seat, after_word, begun, drawn};
+use crate::seat::{Seat, advance, begun, drawn};
 use crate::table::Table;
 use atomic_step::{Answer, Place, Plan, Shape, ShapeFault, Step, StepKind, Want};
 use call_machine::{Call, Machine};
@@ -191,14 +191,7 @@ impl<'t> State<'t> {
         let event = event_of(machine, self.alloc, word)?;
         record(&mut self.log, seat, event)?;
         self.words[index] = op.after(word);
-        let Some(taken) = self.seats[place].take() else {
-            unreachable!()
-        };
-        let Seat::Running { machine } = taken else {
-            unreachable!()
-        };
-        let (next, answer) = after_word(machine, word);
-        self.seats[place] = Some(next);
+        let answer = advance(&mut self.seats[place], word);
         add_drawn(&mut self.seats, &self.table.shape, step, word);
         Ok(stepped_with(answer))
     }

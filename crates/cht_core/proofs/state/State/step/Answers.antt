@@ -57,7 +57,7 @@ index-word-requires c =
     seat_read seats c.args.seat c.index.result.now below c.index.ensures ∙ c.in-Some.is ∙ ap Some c.in-Running.is in
     let planned : plan_of c.in-Running.machine ≡ plan.Step c.in-Step.step = sym c.plan.ensures.value ∙ c.in-Step.is in
     let inside : c.at-index.result < length c.self.inside.words.items =
-    code_index any_step_keeps any_word_fits _ c.self.invariant c.args.seat c.in-Running.machine c.in-Running.machine at at
+    code_index any_step_keeps any_word_fits _ c.self.invariant c.args.seat c.in-Running.machine at
     c.in-Step.step planned c.op-op.result c.op-op.ensures.value c.at-index.result c.at-index.ensures.value in
     omega (arith, inside)
 
@@ -69,22 +69,26 @@ index_mut-requires c =
     seat_read seats c.args.seat c.index.result.now below c.index.ensures ∙ c.in-Some.is ∙ ap Some c.in-Running.is in
     let planned : plan_of c.in-Running.machine ≡ plan.Step c.in-Step.step = sym c.plan.ensures.value ∙ c.in-Step.is in
     let inside : c.at-index.result < length c.self.inside.words.items =
-    code_index any_step_keeps any_word_fits _ c.self.invariant c.args.seat c.in-Running.machine c.in-Running.machine at at
+    code_index any_step_keeps any_word_fits _ c.self.invariant c.args.seat c.in-Running.machine at
     c.in-Step.step planned c.op-op.result c.op-op.ensures.value c.at-index.result c.at-index.ensures.value in
     omega (arith, inside)
 
-pub after_word-next-requires : goal.after_word-next-requires
-after_word-next-requires c =
+pub advance-answer-requires : goal.advance-answer-requires
+advance-answer-requires c =
     let seats = c.self.inside.seats.items in
     let below : c.args.seat < length seats = omega arith in
     let at : seat_in seats c.args.seat ≡ Some (doing.Running c.in-Running.machine) =
     seat_read seats c.args.seat c.index.result.now below c.index.ensures ∙ c.in-Some.is ∙ ap Some c.in-Running.is in
     let planned : plan_of c.in-Running.machine ≡ plan.Step c.in-Step.step = sym c.plan.ensures.value ∙ c.in-Step.is in
-    let again : seat_in seats c.args.seat ≡ Some (doing.Running c.in-Running-taken.machine) =
-    seat_read seats c.args.seat c.index_mut-2.result.now below c.index_mut-2.ensures.value ∙ sym c.take.ensures.value ∙ c.in-Some-take.is ∙ ap Some c.in-Running-taken.is in
+    let lent : c.index_mut-2.result.now ≡ Some (doing.Running c.in-Running.machine) =
+    sym (seat_read seats c.args.seat c.index_mut-2.result.now below c.index_mut-2.ensures.value) ∙ at in
     record {
-      fits = code_fits any_step_keeps any_word_fits _ c.self.invariant c.args.seat c.in-Running.machine c.in-Running-taken.machine at again c.in-Step.step planned
-          c.op-op.result c.op-op.ensures.value c.at-index.result c.at-index.ensures.value c.index-word.result.now c.index-word.ensures;
+      fits = (
+        c.in-Running.machine,
+        lent,
+        code_fits any_step_keeps any_word_fits _ c.self.invariant c.args.seat c.in-Running.machine at c.in-Step.step planned
+            c.op-op.result c.op-op.ensures.value c.at-index.result c.at-index.ensures.value c.index-word.result.now c.index-word.ensures,
+      );
     }
 
 pub invariant_of-self-2 : goal.invariant_of-self-2
@@ -94,12 +98,12 @@ invariant_of-self-2 c =
     let at : seat_in seats c.args.seat ≡ Some (doing.Running c.in-Running.machine) =
     seat_read seats c.args.seat c.index.result.now below c.index.ensures ∙ c.in-Some.is ∙ ap Some c.in-Running.is in
     let planned : plan_of c.in-Running.machine ≡ plan.Step c.in-Step.step = sym c.plan.ensures.value ∙ c.in-Step.is in
-    let again : seat_in seats c.args.seat ≡ Some (doing.Running c.in-Running-taken.machine) =
-    seat_read seats c.args.seat c.index_mut-2.result.now below c.index_mut-2.ensures.value ∙ sym c.take.ensures.value ∙ c.in-Some-take.is ∙ ap Some c.in-Running-taken.is in
-    code_core any_step_keeps any_word_fits _ c.self.invariant c.args.seat c.in-Running.machine c.in-Running-taken.machine at again c.in-Step.step planned
+    let lent : c.index_mut-2.result.now ≡ Some (doing.Running c.in-Running.machine) =
+    sym (seat_read seats c.args.seat c.index_mut-2.result.now below c.index_mut-2.ensures.value) ∙ at in
+    code_core any_step_keeps any_word_fits _ c.self.invariant c.args.seat c.in-Running.machine at c.in-Step.step planned
     c.op-op.result c.op-op.ensures.value c.at-index.result c.at-index.ensures.value c.index-word.result.now c.index-word.ensures
-    c.after.result c.in_ok-event.event c.record.new.log.items c.take.new.self c.after_word-next.result.0 c.add_drawn.new.seats.items
-    c.after.ensures.value c.in_ok-event.ensures.value c.in_ok-record.ensures.ok c.after_word-next.ensures.seat c.add_drawn.ensures.value
+    c.after.result c.in_ok-event.event c.record.new.log.items c.advance-answer.new.seat c.add_drawn.new.seats.items
+    c.after.ensures.value c.in_ok-event.ensures.value c.in_ok-record.ensures.ok (c.advance-answer.ensures.seat c.in-Running.machine lent) c.add_drawn.ensures.value
 
 pub returns-clause-value : goal.returns-clause-value
 returns-clause-value c =
@@ -108,13 +112,13 @@ returns-clause-value c =
     let at : seat_in seats c.args.seat ≡ Some (doing.Running c.in-Running.machine) =
     seat_read seats c.args.seat c.index.result.now below c.index.ensures ∙ c.in-Some.is ∙ ap Some c.in-Running.is in
     let planned : plan_of c.in-Running.machine ≡ plan.Step c.in-Step.step = sym c.plan.ensures.value ∙ c.in-Step.is in
-    let again : seat_in seats c.args.seat ≡ Some (doing.Running c.in-Running-taken.machine) =
-    seat_read seats c.args.seat c.index_mut-2.result.now below c.index_mut-2.ensures.value ∙ sym c.take.ensures.value ∙ c.in-Some-take.is ∙ ap Some c.in-Running-taken.is in
-    rw (← c.self.view_is) (code_said any_step_keeps any_word_fits _ c.self.invariant c.args.seat c.in-Running.machine c.in-Running-taken.machine at again c.in-Step.step planned
+    let lent : c.index_mut-2.result.now ≡ Some (doing.Running c.in-Running.machine) =
+    sym (seat_read seats c.args.seat c.index_mut-2.result.now below c.index_mut-2.ensures.value) ∙ at in
+    rw (← c.self.view_is) (code_said any_step_keeps any_word_fits _ c.self.invariant c.args.seat c.in-Running.machine at c.in-Step.step planned
     c.op-op.result c.op-op.ensures.value c.at-index.result c.at-index.ensures.value c.index-word.result.now c.index-word.ensures
-    c.after.result c.in_ok-event.event c.record.new.log.items c.take.new.self c.after_word-next.result.0 c.add_drawn.new.seats.items
-    c.after.ensures.value c.in_ok-event.ensures.value c.in_ok-record.ensures.ok c.after_word-next.ensures.seat c.add_drawn.ensures.value
-    c.stepped_with.result c.after_word-next.result.1 c.stepped_with.ensures.value c.after_word-next.ensures.answer)
+    c.after.result c.in_ok-event.event c.record.new.log.items c.advance-answer.new.seat c.add_drawn.new.seats.items
+    c.after.ensures.value c.in_ok-event.ensures.value c.in_ok-record.ensures.ok (c.advance-answer.ensures.seat c.in-Running.machine lent) c.add_drawn.ensures.value
+    c.stepped_with.result c.advance-answer.result c.stepped_with.ensures.value (c.advance-answer.ensures.answer c.in-Running.machine lent))
 
 pub returns-clause-lawful : goal.returns-clause-lawful
 returns-clause-lawful c = lawful_core _ (invariant_of-self-2 c)
