@@ -169,6 +169,7 @@ pub enum Step {
 }
 
 /// The word of a head with this first node and these marks.
+#[inline(always)]
 fn head_of(node: Option<u32>, lock: bool, redirect: bool) -> u64
     ensures value { result ≡ head_word (record { node = node; lock = lock; redirect = redirect }) }
 {
@@ -181,6 +182,7 @@ fn head_of(node: Option<u32>, lock: bool, redirect: bool) -> u64
 }
 
 /// An exchange of a word.
+#[inline(always)]
 fn exchange(old: u64, new: u64) -> Deed
     ensures value { result ≡ Deed.Exchange old new }
 {
@@ -189,6 +191,7 @@ fn exchange(old: u64, new: u64) -> Deed
 
 impl Edge {
     /// The word of the edge.
+    #[inline(always)]
     pub fn place(self) -> Place
         ensures value { result ≡ steps.edge_place self }
     {
@@ -199,6 +202,7 @@ impl Edge {
     }
 
     /// The word of the edge where it leads to this node; a head stays locked.
+    #[inline(always)]
     pub fn word(self, next: Option<u32>) -> u64
         ensures value { result ≡ steps.edge_word self next }
     {
@@ -211,6 +215,7 @@ impl Edge {
 
 impl Step {
     /// Of which kind the step is, on which word, and what it does to it.
+    #[inline(always)]
     pub fn access(self) -> Access
         requires value { HasSoundValue self }
         ensures value { result ≡ steps.access_of self }
@@ -223,6 +228,7 @@ impl Step {
     }
 
     /// Of which kind the step is.
+    #[inline(always)]
     pub fn kind(self) -> StepKind
         ensures value { result ≡ (steps.access_of self).kind }
     {
@@ -259,6 +265,7 @@ impl Step {
     }
 
     /// On which word the step is.
+    #[inline(always)]
     pub fn place(self) -> Place
         ensures value { result ≡ (steps.access_of self).place }
     {
@@ -297,6 +304,7 @@ impl Step {
     }
 
     /// What the step does to its word.
+    #[inline(always)]
     pub fn deed(self) -> Deed
         requires value { HasSoundValue self }
         ensures value { result ≡ (steps.access_of self).deed }
@@ -320,6 +328,7 @@ impl Step {
     }
 
     /// The word that a step stores which does not look at the one that it finds; `None` for a load.
+    #[inline(always)]
     fn stored(self) -> Option<u64>
         requires value { HasSoundValue self }
         requires plain { steps.IsLoadOrStore (steps.access_of self).deed }

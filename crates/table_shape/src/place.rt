@@ -1,7 +1,8 @@
 //! The words of a table by what they are for.
 ghost use Rattle.std.specs.Prelude.{◌≡◌, ◌+◌, ◌^◌, ◌<◌, ◌≤◌, ◌↔◌, IsTrue};
+ghost use Rattle.table_shape.specs.declared.place.Place.TheVariants as place;
 ghost use Rattle.table_shape.specs.Shape.{IsSound, slot_words, slots_from, words_of};
-ghost use Rattle.table_shape.specs.Place.{IsInside, row_from, slot_from, index_of};
+ghost use Rattle.table_shape.specs.Place.{IsInside, row_from, slot_from, is_spread, is_for_seat, section_at, head_at, index_of};
 
 use crate::shape::{Shape, heads, row_len};
 
@@ -66,6 +67,56 @@ impl Shape {
         5 + self.seats + heads(self.min_level, row)
     }
 
+    /// Whether the greatest row is long enough for a section word among each eight of its heads.
+    #[inline(always)]
+    fn is_spread(&self) -> bool
+        requires sound { IsSound self.now }
+        ensures value { result ≡ is_spread self.now }
+    {
+        8 * (self.seats + 1) <= row_len(self.max_level)
+    }
+
+    /// Whether a head changes places with the section word of a seat.
+    #[inline(always)]
+    fn is_for_seat(&self, row: u8, bucket: u32) -> bool
+        requires sound { IsSound self.now }
+        ensures value { result ≡ is_for_seat self.now row bucket }
+    {
+        self.is_spread()
+            && row == self.max_level
+            && bucket % 8 == 0
+            && 0 < bucket
+            && bucket < 8 * (self.seats + 1)
+    }
+
+    /// The index of the section word of a seat.
+    #[inline(always)]
+    fn section_at(&self, seat: u32) -> u32
+        requires sound { IsSound self.now }
+        requires seat { seat < self.now.seats }
+        ensures value { result ≡ section_at self.now seat }
+    {
+        if self.is_spread() {
+            self.row_from(self.max_level) + 8 * (seat + 1)
+        } else {
+            5 + seat
+        }
+    }
+
+    /// The index of a head.
+    #[inline(always)]
+    fn head_at(&self, row: u8, bucket: u32) -> u32
+        requires sound { IsSound self.now }
+        requires inside { IsInside self.now (place.Head row bucket) }
+        ensures value { result ≡ head_at self.now row bucket }
+    {
+        if self.is_for_seat(row, bucket) {
+            4 + bucket / 8
+        } else {
+            self.row_from(row) + bucket
+        }
+    }
+
     /// Whether a table of the shape has a row of this level.
     fn has_row(&self, row: u8) -> bool
         ensures row { IsTrue result ↔ ((self.now.min_level ≤ row) × (row ≤ self.now.max_level)) }
@@ -103,8 +154,8 @@ impl Shape {
             Place::ResizeLock => 2,
             Place::Level => 3,
             Place::NewLevel => 4,
-            Place::Section(seat) => 5 + seat,
-            Place::Head { row, bucket } => self.row_from(row) + bucket,
+            Place::Section(seat) => self.section_at(seat),
+            Place::Head { row, bucket } => self.head_at(row, bucket),
             Place::Claim(slot) => self.slot_from(slot),
             Place::Link(slot) => self.slot_from(slot) + 1,
             Place::Count(slot) => self.slot_from(slot) + 2,
@@ -136,6 +187,34 @@ mod tests {
         (Place::Count(1), 40),
         (Place::Text { slot: 7, at: 0 }, 72),
     ];
+
+    static WIDE: Shape = Shape {
+        slots: 8,
+        text_words: 1,
+        min_level: 3,
+        max_level: 6,
+        seats: 4,
+    };
+
+    static SPREAD: [(Place, u32); 8] = [
+        (Place::NewLevel, 4),
+        (Place::Head { row: 6, bucket: 8 }, 5),
+        (Place::Head { row: 6, bucket: 32 }, 8),
+        (Place::Head { row: 5, bucket: 8 }, 41),
+        (Place::Head { row: 6, bucket: 0 }, 65),
+        (Place::Section(0), 73),
+        (Place::Section(3), 97),
+        (Place::Head { row: 6, bucket: 40 }, 105),
+    ];
+
+    #[test]
+    fn section_words_stand_apart_in_a_wide_table(rt: HostRuntime) {
+        assert!(rt; WIDE.check().is_ok());
+        for (place, index) in &SPREAD {
+            assert!(rt; WIDE.has(*place));
+            assert_eq!(rt; WIDE.index(*place), *index);
+        }
+    }
 
     #[test]
     fn places_have_their_index(rt: HostRuntime) {
