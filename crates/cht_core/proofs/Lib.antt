@@ -131,6 +131,8 @@ pub mod PassBacks
 pub mod PassStages
 pub mod PassWaits
 pub mod PollBounds
+pub mod PollLeft
+pub mod PollPasses
 pub mod PollStages
 pub mod PutHeadState
 pub mod PutHeads
