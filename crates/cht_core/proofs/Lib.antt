@@ -95,6 +95,10 @@ pub mod Loads
 pub mod LockStages
 pub mod LockSteps
 pub mod Locking
+pub mod LooksGrow
+pub mod LooksShrink
+pub mod LooksStay
+pub mod LooksSteps
 pub mod MachineBounds
 pub mod MachineCalls
 pub mod MachineSteps
