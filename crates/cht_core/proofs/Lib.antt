@@ -95,6 +95,7 @@ pub mod Loads
 pub mod LockStages
 pub mod LockSteps
 pub mod Locking
+pub mod LooksBounds
 pub mod LooksGrow
 pub mod LooksShrink
 pub mod LooksStay

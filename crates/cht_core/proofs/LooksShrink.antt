@@ -58,7 +58,7 @@ next_behind next first chain x y passed path is few =
     )
 
 -- and the nodes before it with itself are no more than the chain has
-behind_few : (chain : List ℕ) (x passed slots : ℕ) → length chain ≤ slots → ComesBehind chain x passed → passed + 1 ≤ slots
+pub behind_few : (chain : List ℕ) (x passed slots : ℕ) → length chain ≤ slots → ComesBehind chain x passed → passed + 1 ≤ slots
 behind_few chain x passed slots most few =
     let size : length chain ≡ length (few.0 ++ x ∷ few.1) = ap length few.2 in
     let parts = length-append few.0 (x ∷ few.1) in
@@ -95,7 +95,7 @@ module _ (slots : ℕ) (f' : Flow) where
 
 module _ (t : Table) (m m' : Memory) (p : Past) (f : Flow) (i : ℕ) (text : List ℕ) (table : IsTable t m p f) where
   -- the chain of a head that is used has no more nodes than the table has slots
-  chain_few : (row bucket : ℕ) → IsUsed p.now f row bucket → length (f.chain row bucket) ≤ t.shape.slots
+  pub chain_few : (row bucket : ℕ) → IsUsed p.now f row bucket → length (f.chain row bucket) ≤ t.shape.slots
   chain_few row bucket used =
       linked_few t m p f table (f.chain row bucket) (table.chains.once row bucket used) (λ s on. let is = table.chains.on_linked row bucket s used on in (is.0, is.1, is.2, is.3))
 
