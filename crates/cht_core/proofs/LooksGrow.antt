@@ -6,7 +6,7 @@ use Rattle.chain_core.specs.Nodes.{On, Once}
 use Rattle.chain_core.proofs.Members.{on_right}
 use Rattle.chain_core.proofs.Ways.{path_begins}
 use Rattle.text_words.specs.Hash.{hash_of}
-use Rattle.intern_log.specs.Now.{Now, owner_of}
+use Rattle.intern_log.specs.Now.{owner_of}
 use Rattle.atomic_step.specs.declared.step.Step.TheVariants as step
 use Rattle.call_machine.specs.declared.grace.GraceStage.TheVariants.{RaiseCounter, LoadSection}
 use Rattle.call_machine.specs.declared.grace.Gracing.{Gracing}
@@ -23,11 +23,10 @@ use Rattle.call_machine.specs.declared.resize.ResizeStage.TheVariants.{PutNewLev
 use Rattle.call_machine.specs.declared.resize.Side as sides
 use Rattle.call_machine.specs.declared.resize.Side.TheVariants.{Even, Odd}
 use Rattle.call_machine.specs.declared.resize.UnzipStage.TheVariants as unzip
-use Rattle.call_machine.specs.Grace.{grace_row, counts_grace}
+use Rattle.call_machine.specs.Grace.{grace_row}
 use Rattle.call_machine.specs.Lock.{lock_row}
 use Rattle.call_machine.specs.Resize.{Went, resize_row, bucket_at, half, locks_on, graces_on, unzips_on, end_of, other, goes}
 use Rattle.cht_core.specs.declared.table.Table.{Table}
-use Rattle.cht_core.specs.Chains.{Chains}
 use Rattle.cht_core.specs.Flow.{Flow, is_owner_in}
 use Rattle.cht_core.specs.KnowsResize.{Grade, Unzipping, KnowsGrow, KnowsUnzip}
 use Rattle.cht_core.specs.Looks.{LooksAtMoved, GrowLooksAtFew}

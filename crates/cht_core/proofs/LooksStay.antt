@@ -1,7 +1,5 @@
 -- At how many nodes an unfinished resize has looked stays few while others make steps, as a call begins, and once it has answered.
-use Rattle.std.specs.Prelude.{nat_le}
-use Rattle.std.proofs.Common.{◌≡◌, ◌≢◌, ℕ, ◌+◌, ◌^◌, ◌≤◌, List, Option, Some, None, IfSome, refl, sym, ap, subst, ◌∙◌}
-use Rattle.chain_core.specs.Nodes.{On}
+use Rattle.std.proofs.Common.{◌≡◌, ◌≢◌, ℕ, ◌+◌, Option, Some, None, IfSome, refl, sym, subst, ◌∙◌}
 use Rattle.intern_log.specs.Now.{owner_of}
 use Rattle.atomic_step.specs.declared.answer.Answer.{Answer}
 use Rattle.atomic_step.specs.declared.answer.Answer.TheVariants as answer
@@ -18,7 +16,6 @@ use Rattle.call_machine.specs.declared.resize.AfterGrace.TheVariants as after
 use Rattle.call_machine.specs.declared.resize.Direction.{Direction}
 use Rattle.call_machine.specs.declared.resize.Direction.TheVariants.{Grow, Shrink}
 use Rattle.call_machine.specs.declared.resize.JoinStage.TheVariants as join
-use Rattle.call_machine.specs.declared.resize.Resize.{Resize}
 use Rattle.call_machine.specs.declared.resize.ResizeAlong.{ResizeAlong}
 use Rattle.call_machine.specs.declared.resize.ResizeStage.{ResizeStage}
 use Rattle.call_machine.specs.declared.resize.ResizeStage.TheVariants.{PutNewLevel, Lock, PutHead, RedirectHead, Unzip, Join, UnlockHead, Grace, StoreLevel, ClearNewLevel, GiveResizeLock}

@@ -12,7 +12,6 @@ use Rattle.call_machine.specs.declared.machine.Machine.TheVariants as machine
 use Rattle.call_machine.specs.declared.poll.Polling.{Polling}
 use Rattle.call_machine.specs.declared.resize.Direction.{Direction}
 use Rattle.call_machine.specs.declared.resize.Direction.TheVariants.{Grow, Shrink}
-use Rattle.call_machine.specs.declared.resize.Resize.{Resize}
 use Rattle.call_machine.specs.declared.resize.ResizeAlong.{ResizeAlong}
 use Rattle.call_machine.specs.declared.resize.ResizeStage.{ResizeStage}
 use Rattle.call_machine.specs.declared.stage.Along.{Along}

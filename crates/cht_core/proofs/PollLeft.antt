@@ -4,9 +4,6 @@ use Rattle.std.specs.Prelude.{min, nat_lt}
 use Rattle.std.proofs.lemmas.Nat.{pow_pos}
 use Rattle.std.proofs.Math.Nat.{mul-le-mul_right}
 use Rattle.std.proofs.Math.Pow.{pow_mono}
-use Rattle.section_core.specs.Words.{waits_for}
-use Rattle.marked_word.specs.Head.{is_locked, first_of}
-use Rattle.marked_word.specs.Link.{node_of}
 use Rattle.table_shape.specs.declared.shape.Shape.{Shape}
 use Rattle.table_shape.specs.Shape.{IsSound}
 use Rattle.atomic_step.specs.declared.answer.Answer.{Answer}
@@ -18,7 +15,6 @@ use Rattle.call_machine.specs.declared.clean.CleanStage.{CleanStage}
 use Rattle.call_machine.specs.declared.clean.CleanStage.TheVariants.{LoadLevel, Lock, Pass, UnlockHead, Grace, Free, GiveResizeLock}
 use Rattle.call_machine.specs.declared.clean.Freeing.{Freeing}
 use Rattle.call_machine.specs.declared.clean.Freeing.TheVariants.{Again, Last}
-use Rattle.call_machine.specs.declared.grace.GraceStage.TheVariants.{RaiseCounter, LoadSection}
 use Rattle.call_machine.specs.declared.grace.Gracing.{Gracing}
 use Rattle.call_machine.specs.declared.grace.Gracing.TheVariants as gracing
 use Rattle.call_machine.specs.declared.lock.LockStage.TheVariants.{LoadHead}
@@ -41,14 +37,13 @@ use Rattle.call_machine.specs.CleanMeasure as cleans
 use Rattle.call_machine.specs.Grace.{grace_row, counts_grace}
 use Rattle.call_machine.specs.Lock.{lock_row}
 use Rattle.call_machine.specs.Machine.{shape_of, got_of}
-use Rattle.call_machine.specs.Pass.{begins_pass, passes_on, pass_row, free_row}
+use Rattle.call_machine.specs.Pass.{passes_on, pass_row, free_row}
 use Rattle.call_machine.specs.Poll.{polling, poll_got, work_left}
 use Rattle.call_machine.specs.Resize as resize
 use Rattle.call_machine.specs.ResizeMeasure as resizes
 use Rattle.call_machine.specs.SoundClean.{IsSoundClean}
 use Rattle.call_machine.specs.SoundMachine.{IsSoundMachine, FitsMachine}
 use Rattle.call_machine.specs.SoundPoll.{FitsPoll}
-use Rattle.call_machine.specs.SoundResize.{IsSoundResize}
 use Rattle.call_machine.specs.Work.{of_clean, of_resize, work_row, IsSoundWork}
 use Rattle.call_machine.proofs.CleanMeasure.{lowers_law}
 use Rattle.call_machine.proofs.Machines.{got_is, fits_part}

@@ -1,5 +1,5 @@
 -- A poll of a work begins with few full passes, and goes on with few.
-use Rattle.std.proofs.Common.{◌≡◌, ◌≤◌, ◌/◌, ℕ, Option, Some, None, sym, subst, arith}
+use Rattle.std.proofs.Common.{◌≡◌, ℕ, Option, Some, None, sym, subst, arith}
 use Rattle.intern_log.specs.declared.event.Kind.{Kind}
 use Rattle.table_shape.specs.declared.shape.Shape.{Shape}
 use Rattle.atomic_step.specs.declared.answer.Answer.{Answer}
