@@ -42,7 +42,7 @@ use Rattle.cht_core.proofs.MovedWhole.{move_parts}
 use Rattle.cht_core.proofs.Turns.{flow_of}
 
 -- a slot that was moved past is not whole after the counter is raised
-raised_parted : (y : Bool) (place : ℕ) (parted : ℕ → Parted) (s : ℕ) → parted s ≢ Whole → cond y (λ s. raised_at place (parted s)) parted s ≢ Whole
+pub raised_parted : (y : Bool) (place : ℕ) (parted : ℕ → Parted) (s : ℕ) → parted s ≢ Whole → cond y (λ s. raised_at place (parted s)) parted s ≢ Whole
 raised_parted false place parted s not = not
 raised_parted true place parted s not = go (parted s) not
   where

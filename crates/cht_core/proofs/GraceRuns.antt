@@ -26,7 +26,7 @@ use Rattle.cht_core.proofs.StateLaw.{any_step_keeps, any_word_fits}
 use Rattle.cht_core.proofs.StateSteps.{running, moves}
 
 -- a resize stays one in its direction
-same_resize : (r : Resize) (w : Work) → IsSameWork (work.Resize r) w → (q : Resize) × (w ≡ work.Resize q) × (q.direction ≡ r.direction)
+pub same_resize : (r : Resize) (w : Work) → IsSameWork (work.Resize r) w → (q : Resize) × (w ≡ work.Resize q) × (q.direction ≡ r.direction)
 same_resize r (work.Clean c) same = absurd same
 same_resize r (work.Resize q) same = (q, refl, same)
 

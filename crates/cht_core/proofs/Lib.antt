@@ -95,6 +95,11 @@ pub mod Loads
 pub mod LockStages
 pub mod LockSteps
 pub mod Locking
+pub mod LooksBounds
+pub mod LooksGrow
+pub mod LooksShrink
+pub mod LooksStay
+pub mod LooksSteps
 pub mod MachineBounds
 pub mod MachineCalls
 pub mod MachineSteps
@@ -131,6 +136,8 @@ pub mod PassBacks
 pub mod PassStages
 pub mod PassWaits
 pub mod PollBounds
+pub mod PollLeft
+pub mod PollPasses
 pub mod PollStages
 pub mod PutHeadState
 pub mod PutHeads

@@ -22,6 +22,7 @@ use Rattle.cht_core.specs.Heads.{Heads}
 use Rattle.cht_core.specs.Invariant.{Inv, Numbers, Holds}
 use Rattle.cht_core.specs.Chains.{Chains}
 use Rattle.cht_core.specs.Ledger.{sum_below}
+use Rattle.cht_core.specs.Looks.{LooksAtFew}
 use Rattle.cht_core.specs.Memory.{Memory, is_inside}
 use Rattle.cht_core.specs.Owes.{IsAllOf}
 use Rattle.cht_core.specs.Past.{Past, past_of}
@@ -287,4 +288,5 @@ module _ (t : Table) (m : Memory) (shape : IsSound t.shape) (even : t.first_coun
       lawful = λ short. record { allowed = tt; fresh = tt };
       edges = λ s next k at is. absurd (cc);
       graces = λ k v is. subst (λ (x : View). GrowsWithFew (opening_past t).now [] opening_flow x.seat) (sym (only_first k v is).1) (tt, tt);
+      looks = λ k v is. subst (λ (x : View). LooksAtFew t.shape.slots opening_flow x.seat) (sym (only_first k v is).1) tt;
     }

@@ -19,6 +19,7 @@ use Rattle.cht_core.specs.Flow.{Flow}
 use Rattle.cht_core.specs.Graces.{WorksWithFew, GrowsWithFew}
 use Rattle.cht_core.specs.Invariant.{Inv, Numbers, Holds}
 use Rattle.cht_core.specs.KnowsWork.{KnowsGrace, KnowsWork}
+use Rattle.cht_core.specs.Looks.{WorkLooksAtFew, LooksAtFew}
 use Rattle.cht_core.specs.Memory.{Memory}
 use Rattle.cht_core.specs.Owes.{IsAllOf}
 use Rattle.cht_core.specs.Past.{Past, past_of, past_after, by}
@@ -133,6 +134,11 @@ module _ (t : Table) (m m' : Memory) (seat : ℕ → Option View) (log : List Ev
       let free : (own : Own) × (v.seat ≡ doing.Idle own) × (own.work ≡ None) × (own.grace ≡ None) = free_seat v.seat (may.seats k v is) in
       subst (GrowsWithFew n log_after flow) (sym free.1) (none_known (WorksWithFew n log_after flow) free.0.work free.2, tt)
 
+  looks_anew : (k : ℕ) (v : View) → seat k ≡ Some v → LooksAtFew t.shape.slots flow v.seat
+  looks_anew k v is =
+      let free : (own : Own) × (v.seat ≡ doing.Idle own) × (own.work ≡ None) × (own.grace ≡ None) = free_seat v.seat (may.seats k v is) in
+      subst (LooksAtFew t.shape.slots flow) (sym free.1) (none_known (WorkLooksAtFew t.shape.slots flow) free.0.work free.2)
+
   inv_anew : Inv t m' seat log_after
   inv_anew =
       let told_is : past_of t.shape.min_level log_after ≡ after = past_of-one_more t.shape.min_level log (by 0 (seeds past_here.now)) in
@@ -148,6 +154,7 @@ module _ (t : Table) (m m' : Memory) (seat : ℕ → Option View) (log : List Ev
         edges = unlinked_lead_told t m m' log 0 (Some (seeds past_here.now)) inv.table.tidy inv.edges
             (λ s k at is. made.stay (place.Link s) (λ linked. let both : Unlinked k at ≡ Linked linked.0 linked.1 linked.2 = sym is ∙ linked.3 in cc)) (λ s next is. absurd (cc));
         graces = λ k v is. graces_anew (past_of t.shape.min_level log_after).now k v is;
+        looks = looks_anew;
       }
 
 -- the law

@@ -20,6 +20,7 @@ use Rattle.cht_core.specs.Flow.{Flow}
 use Rattle.cht_core.specs.Graces.{GrowsWithFew}
 use Rattle.cht_core.specs.Invariant.{Inv, Numbers, Holds}
 use Rattle.cht_core.specs.Ledger.{Balanced, sum_below}
+use Rattle.cht_core.specs.Looks.{LooksAtFew}
 use Rattle.cht_core.specs.Memory.{Memory}
 use Rattle.cht_core.specs.Owes.{Owes, OwesNothing, IsAllOf}
 use Rattle.cht_core.specs.Past.{Past, past_of}
@@ -29,6 +30,7 @@ use Rattle.cht_core.proofs.Basics.{with_here, with_other}
 use Rattle.cht_core.proofs.FewSeats.{seat_stays}
 use Rattle.cht_core.proofs.FlowHolds.{with_holds, table_with_holds, knows_with_holds}
 use Rattle.cht_core.proofs.Ledgers.{sum_changed}
+use Rattle.cht_core.proofs.LooksStay.{same_looks}
 use Rattle.cht_core.proofs.OwesRests.{owes_of_new_seat}
 use Rattle.cht_core.proofs.SeatMoves.{IsFrom, stays_no_more, bounds_kept, each_seat, each_owes, owed_by}
 use Rattle.cht_core.proofs.SeatsKept.{HandsOver, new_seat, joined}
@@ -75,6 +77,7 @@ may_be_added t m seat seat' log i inv free inside unused moves =
       lawful = inv.lawful;
       edges = inv.edges;
       graces = each_seat seat seat' i (new_view t.shape i) moves (λ k u. GrowsWithFew p.now log inv.flow u.seat) (tt, tt) (λ k u differ is. inv.graces k u is);
+      looks = each_seat seat seat' i (new_view t.shape i) moves (λ k u. LooksAtFew t.shape.slots inv.flow u.seat) tt (λ k u differ is. inv.looks k u is);
     }
 
 -- the holds with those of one seat added to another one's
@@ -186,6 +189,9 @@ module _ (t : Table) (m : Memory) (seat seat' : ℕ → Option View) (log : List
   few_after : (k : ℕ) (w : View) → seat k ≡ Some w → GrowsWithFew past_here.now log joined_flow w.seat
   few_after k w is = seat_stays past_here.now past_here.now log log refl (λ test. omega arith) inv.flow joined_flow w.seat (λ u has x not. not) (inv.graces k w is)
 
+  looks_after : (k : ℕ) (w : View) → seat k ≡ Some w → LooksAtFew t.shape.slots joined_flow w.seat
+  looks_after k w is = same_looks t.shape.slots inv.flow joined_flow (λ x. refl) (λ row bucket. refl) w.seat (inv.looks k w is)
+
   nothing_after : OwesNothing past_here j
   nothing_after =
       let known : IsOwnOf t j own × KnowsOwn m past_here inv.flow j own =
@@ -224,6 +230,7 @@ module _ (t : Table) (m : Memory) (seat seat' : ℕ → Option View) (log : List
         lawful = inv.lawful;
         edges = inv.edges;
         graces = each_joined (λ k w. GrowsWithFew past_here.now log joined_flow w.seat) (few_after i v joins.to) (λ k w differ other is. few_after k w is);
+        looks = each_joined (λ k w. LooksAtFew t.shape.slots joined_flow w.seat) (looks_after i v joins.to) (λ k w differ other is. looks_after k w is);
       }
 
 -- an idle seat without a work may be joined into another one, which then has the numbers and the holds of both

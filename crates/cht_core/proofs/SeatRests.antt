@@ -42,12 +42,14 @@ use Rattle.cht_core.specs.Flow.{Flow}
 use Rattle.cht_core.specs.Graces.{GrowsWithFew}
 use Rattle.cht_core.specs.KnowsCall.{KnowsStage}
 use Rattle.cht_core.specs.KnowsWork.{KnowsLeft, KnowsBegin, KnowsSweep}
+use Rattle.cht_core.specs.Looks.{LooksAtFew}
 use Rattle.cht_core.specs.Memory.{Memory}
 use Rattle.cht_core.specs.Owes.{Owes}
 use Rattle.cht_core.specs.Past.{Past, past_of}
 use Rattle.cht_core.specs.Search.{IsOutside}
 use Rattle.cht_core.specs.View.{IsOfSeat, IsOwnOf, KnowsOwn, KnowsMachine, Knows}
 use Rattle.cht_core.proofs.FewSeats.{rests_few}
+use Rattle.cht_core.proofs.LooksStay.{rests_looks}
 use Rattle.cht_core.proofs.OwesRests.{owes_at_rest}
 use Rattle.cht_core.proofs.SeatMoves.{IsGoodPoll, IsNoMore, owed_by, moved_inv}
 
@@ -184,3 +186,4 @@ may_rest t m seat seat' log i v k a inv at running answered moves =
     (rests_own m p inv.flow i v.load v.passed a t k known.0, rests_knows m p inv.flow i v.load v.passed a k known.0.sound answered known.1)
     (owes_at_rest p i k a known.0.sound owed answered)
     less (rests_few p.now log inv.flow k (subst (GrowsWithFew p.now log inv.flow) running (inv.graces i v at)))
+    (rests_looks t.shape.slots inv.flow k (subst (LooksAtFew t.shape.slots inv.flow) running (inv.looks i v at)))

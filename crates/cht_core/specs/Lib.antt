@@ -19,6 +19,8 @@ pub mod Owes
 pub mod Bounds
 pub mod Edges
 pub mod Graces
+pub mod Looks
+pub mod PollMeasure
 pub mod Invariant
 pub mod Shows
 pub mod Rehash
