@@ -52,7 +52,7 @@ use Rattle.cht_core.proofs.MachineSteps.{mapped, both_make}
 use Rattle.cht_core.proofs.Turns.{IfMakes, if_planned, past_by, flow_of}
 
 -- what is so of each row is so of that of a turn
-any_make : {S : Type 0} (P : Row S → Type 0) → ((does : Row S) → P does) → (turn : Turn S) → IfMakes P turn
+pub any_make : {S : Type 0} (P : Row S → Type 0) → ((does : Row S) → P does) → (turn : Turn S) → IfMakes P turn
 any_make P all (Answered a) = tt
 any_make P all (Makes does) = all does
 

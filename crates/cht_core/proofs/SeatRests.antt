@@ -40,6 +40,7 @@ use Rattle.cht_core.specs.Begins.{MayRest, idle_view}
 use Rattle.cht_core.specs.Bounds.{raised_by, raises_left, raises_work}
 use Rattle.cht_core.specs.Flow.{Flow}
 use Rattle.cht_core.specs.Graces.{GrowsWithFew}
+use Rattle.cht_core.specs.Passes.{PassesFind}
 use Rattle.cht_core.specs.KnowsCall.{KnowsStage}
 use Rattle.cht_core.specs.KnowsWork.{KnowsLeft, KnowsBegin, KnowsSweep}
 use Rattle.cht_core.specs.Memory.{Memory}
@@ -48,6 +49,7 @@ use Rattle.cht_core.specs.Past.{Past, past_of}
 use Rattle.cht_core.specs.Search.{IsOutside}
 use Rattle.cht_core.specs.View.{IsOfSeat, IsOwnOf, KnowsOwn, KnowsMachine, Knows}
 use Rattle.cht_core.proofs.FewSeats.{rests_few}
+use Rattle.cht_core.proofs.FoundSeats.{rests_find}
 use Rattle.cht_core.proofs.OwesRests.{owes_at_rest}
 use Rattle.cht_core.proofs.SeatMoves.{IsGoodPoll, IsNoMore, owed_by, moved_inv}
 
@@ -184,3 +186,4 @@ may_rest t m seat seat' log i v k a inv at running answered moves =
     (rests_own m p inv.flow i v.load v.passed a t k known.0, rests_knows m p inv.flow i v.load v.passed a k known.0.sound answered known.1)
     (owes_at_rest p i k a known.0.sound owed answered)
     less (rests_few p.now log inv.flow k (subst (GrowsWithFew p.now log inv.flow) running (inv.graces i v at)))
+    (rests_find t p.now log inv.flow i k (subst (PassesFind t p.now log inv.flow i) running (inv.passes i v at)))

@@ -19,6 +19,7 @@ pub mod Owes
 pub mod Bounds
 pub mod Edges
 pub mod Graces
+pub mod Passes
 pub mod Invariant
 pub mod Shows
 pub mod Rehash
