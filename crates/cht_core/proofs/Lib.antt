@@ -132,6 +132,7 @@ pub mod PartsResizePaths
 pub mod PartsResizeSides
 pub mod PartsResizeWalks
 pub mod PassBacks
+pub mod PassBounds
 pub mod PassFound
 pub mod PassStages
 pub mod PassWaits

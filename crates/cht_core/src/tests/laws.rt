@@ -40,6 +40,7 @@ fn laws_can_be_called() {
     part_laws::live_texts_have_their_own_entries();
     part_laws::slots_are_freed_after_their_graces();
     part_laws::each_taken_slot_is_known();
+    pass_laws::passes_look_at_few_nodes();
     rehash_laws::a_rehash_keeps_the_invariant();
     rehash_laws::a_table_is_quiet_before_a_rehash();
     rehash_laws::a_rehash_has_one_outcome();
