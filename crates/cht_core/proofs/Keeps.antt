@@ -23,6 +23,7 @@ use Rattle.cht_core.specs.Passes.{PassesFind}
 use Rattle.cht_core.specs.Past.{Past, past_of, told}
 use Rattle.cht_core.specs.TableState.{IsTable}
 use Rattle.cht_core.specs.View.{View, Knows, view_after}
+use Rattle.cht_core.proofs.CauseLogs.{told_more}
 use Rattle.cht_core.proofs.EnteredCounts.{no_fewer}
 use Rattle.cht_core.proofs.FewSeats.{seat_owner, seat_stays}
 use Rattle.cht_core.proofs.FoundSeats.{finds_stay}
@@ -110,6 +111,7 @@ module _ (t : Table) (m m' : Memory) (seat seat' : ℕ → Option View) (log : L
         bounds = bounds;
         numbers = numbers_after_step t seat seat' log i v new_view event is refl moves inv.numbers;
         holds = holds_after_step t seat seat' log i v new_view event is refl moves inv.flow.holds inv.numbers inv.holds drops;
+        told = told_more t log i event inv.told goes.told;
         lawful = lawful_told t log i event inv.lawful goes.told;
         edges = edges;
         graces = λ j w at. subst (λ (p : Past). GrowsWithFew p.now (log ++ events_of i event) flow w.seat) (sym told_is) (graces_all moves goes graces j w at);

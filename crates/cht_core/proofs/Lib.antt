@@ -57,6 +57,7 @@ pub mod CreateChains
 pub mod CreateParts
 pub mod CreateSlots
 pub mod Creates
+pub mod DeadSlots
 pub mod EdgeWords
 pub mod EdgesKept
 pub mod EdgesLead
@@ -134,6 +135,7 @@ pub mod PartsResizeWalks
 pub mod PassBacks
 pub mod PassBounds
 pub mod PassFound
+pub mod PassRuns
 pub mod PassStages
 pub mod PassWaits
 pub mod PollBounds

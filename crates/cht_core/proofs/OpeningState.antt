@@ -285,6 +285,7 @@ module _ (t : Table) (m : Memory) (shape : IsSound t.shape) (even : t.first_coun
       bounds = opening_bounds;
       numbers = opening_numbers;
       holds = opening_holds;
+      told = tt;
       lawful = λ short. record { allowed = tt; fresh = tt };
       edges = λ s next k at is. absurd (cc);
       graces = λ k v is. subst (λ (x : View). GrowsWithFew (opening_past t).now [] opening_flow x.seat) (sym (only_first k v is).1) (tt, tt);

@@ -26,6 +26,7 @@ use Rattle.cht_core.specs.Past.{Past, past_of, past_after, by}
 use Rattle.cht_core.specs.Rehash.{IsRehashed, KeepsRehash, MayRehash, by_next_seed, seeds}
 use Rattle.cht_core.specs.TableState.{IsTable}
 use Rattle.cht_core.specs.View.{View, Knows, KnowsOwn, IsOwnOf}
+use Rattle.cht_core.proofs.CauseLogs.{told_more}
 use Rattle.cht_core.proofs.EdgesKept.{unlinked_lead_told}
 use Rattle.cht_core.proofs.LawfulKept.{lawful_told}
 use Rattle.cht_core.proofs.RehashChains.{flow_anew, heads_anew, chains_anew}
@@ -150,6 +151,7 @@ module _ (t : Table) (m m' : Memory) (seat : ℕ → Option View) (log : List Ev
         bounds = bounds_anew;
         numbers = numbers_anew;
         holds = holds_anew;
+        told = told_more t log 0 (Some (seeds past_here.now)) inv.told (may_tell t m seat log inv may);
         lawful = lawful_told t log 0 (Some (seeds past_here.now)) inv.lawful (may_tell t m seat log inv may);
         edges = unlinked_lead_told t m m' log 0 (Some (seeds past_here.now)) inv.table.tidy inv.edges
             (λ s k at is. made.stay (place.Link s) (λ linked. let both : Unlinked k at ≡ Linked linked.0 linked.1 linked.2 = sym is ∙ linked.3 in cc)) (λ s next is. absurd (cc));

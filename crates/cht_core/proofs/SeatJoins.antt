@@ -75,6 +75,7 @@ may_be_added t m seat seat' log i inv free inside unused moves =
       bounds = bounds_kept t m seat seat' inv.bounds from;
       numbers = seats.0;
       holds = seats.1;
+      told = inv.told;
       lawful = inv.lawful;
       edges = inv.edges;
       graces = each_seat seat seat' i (new_view t.shape i) moves (λ k u. GrowsWithFew p.now log inv.flow u.seat) (tt, tt) (λ k u differ is. inv.graces k u is);
@@ -229,6 +230,7 @@ module _ (t : Table) (m : Memory) (seat seat' : ℕ → Option View) (log : List
             (each_joined (λ k w. IsFrom (seat k) w.seat) (from_after i v joins.to) (λ k w differ other is. from_after k w is));
         numbers = seats.0;
         holds = seats.1;
+        told = inv.told;
         lawful = inv.lawful;
         edges = inv.edges;
         graces = each_joined (λ k w. GrowsWithFew past_here.now log joined_flow w.seat) (few_after i v joins.to) (λ k w differ other is. few_after k w is);

@@ -160,6 +160,7 @@ module _ (t : Table) (m : Memory) (seat seat' : ℕ → Option View) (log : List
     numbers = subst (λ l. Numbers t seat' l) (append-nil log) (numbers_after_step t seat seat' log i v v' None at same moves inv.numbers);
     holds = subst (λ l. Holds seat' l inv.flow.holds) (append-nil log)
         (holds_after_step t seat seat' log i v v' None at same moves inv.flow.holds inv.numbers inv.holds (λ h is. absurd (cc)));
+    told = inv.told;
     lawful = inv.lawful;
     edges = inv.edges;
     graces = each_seat seat seat' i v' moves (λ k u. GrowsWithFew (past_of t.shape.min_level log).now log inv.flow u.seat) few (λ k u differ is. inv.graces k u is);

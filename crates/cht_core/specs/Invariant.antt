@@ -26,6 +26,7 @@ use Rattle.cht_core.specs.Passes.{PassesFind}
 use Rattle.cht_core.specs.Past.{past_of, MayTell, kind_of, by}
 use Rattle.cht_core.specs.TableState.{IsTable}
 use Rattle.cht_core.specs.View.{View, view_after, Knows}
+use Rattle.cht_core.specs.Windows.{IsTold}
 
 -- each seat has its numbers for itself, and each event that callers see is by a number of a seat
 pub record Numbers (t : Table) (seat : ℕ → Option View) (log : List Event) : Type 0 where
@@ -47,6 +48,7 @@ pub record Inv (t : Table) (m : Memory) (seat : ℕ → Option View) (log : List
   pub bounds : Bounds t m seat
   pub numbers : Numbers t seat log
   pub holds : Holds seat log flow.holds
+  pub told : IsTold t log
   pub lawful : IsShort log → IsLawful (kind_of t) log
   pub edges : UnlinkedLead t m log
   pub graces : (k : ℕ) (v : View) → seat k ≡ Some v → GrowsWithFew (past_of t.shape.min_level log).now log flow v.seat

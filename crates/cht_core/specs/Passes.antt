@@ -8,7 +8,7 @@ use Rattle.intern_log.specs.declared.event.Handle.{Handle}
 use Rattle.intern_log.specs.declared.event.What.{What}
 use Rattle.intern_log.specs.declared.event.What.TheVariants as what
 use Rattle.intern_log.specs.Log.{map_of}
-use Rattle.intern_log.specs.Now.{Now, Linked}
+use Rattle.intern_log.specs.Now.{Now, Linked, now_of}
 use Rattle.intern_log.specs.TextMap.{IsLive}
 use Rattle.atomic_step.specs.declared.answer.Answer.{Answer}
 use Rattle.atomic_step.specs.declared.answer.Answer.TheVariants as answer
@@ -173,3 +173,23 @@ CallFinds t n log f i _ = Unit {0}
 
 abbrev pub PassesFind : Table → Now → List Event → Flow → ℕ → Seat → Type 0
 PassesFind t n log f i s = IfSome (work_of s) (WorkFinds t n log f i) × CallFinds t n log f i s
+
+-- WHAT IS UNLINKED
+
+-- the slot is unlinked in a piece of a log
+abbrev pub IsUnlinkedIn : ℕ → List Event → Type 0
+IsUnlinkedIn s events = (front back : List Event) × (seat : ℕ) × (events ≡ front ++ by seat (what.Unlink s) ∷ back)
+
+-- each of these slots that was linked and dead at any place up to one was unlinked behind it; which they are is said of the slot and its text
+abbrev pub DeadAreUnlinked : ℕ → List Event → ℕ → (ℕ → List ℕ → Type 0) → Type 0
+DeadAreUnlinked min_level log at Which = (front back : List Event) → log ≡ front ++ back → length front ≤ at → (s : ℕ) (text : List ℕ) (h : Handle) (born : ℕ) →
+    (now_of min_level front).slot s ≡ Linked text h born → ¬ (IsLive (map_of front) h) → Which s text → IsUnlinkedIn s back
+
+-- since the seat took the resize lock for the last time each slot that was linked and dead then was unlinked
+abbrev pub HasCleaned : ℕ → List Event → ℕ → Type 0
+HasCleaned min_level log i = (at : ℕ) × IsLast is_taken i what.ResizeTaken log at × DeadAreUnlinked min_level log at IsAny
+
+-- since the seat locked a bucket for the last time each slot of that bucket that was linked and dead then was unlinked
+abbrev pub HasSwept : ℕ → List Event → ℕ → Type 0
+HasSwept min_level log i =
+    (row bucket at : ℕ) × IsLast is_lock i (what.Lock row bucket) log at × DeadAreUnlinked min_level log at (IsOfBucket (now_of min_level log).seed row bucket)
