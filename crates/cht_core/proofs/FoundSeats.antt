@@ -158,7 +158,7 @@ module _ (t : Table) (m : Memory) (log : List Event) (f f' : Flow) (i j : ℕ) (
       call_stays taken v (doing.Running (machine.Call c w g)) known finds = tt
       call_stays taken v (doing.Running (machine.Begin b)) known finds = tt
       call_stays taken v (doing.Running (machine.Poll q)) known finds = poll_stays taken q.work q.answer finds
-      call_stays taken v (doing.Running (machine.Sweep s)) known finds = (finds.0, sweep_stays s.asked s.along s.stage known.1 finds.1)
+      call_stays taken v (doing.Running (machine.Sweep s)) known finds = (finds.0, sweep_stays s.asked s.along s.stage known.1 finds.1, finds.2)
 
       -- what a seat has found stays by the steps of others
       pub finds_stay : IsOther is_taken → (v : View) → Knows t m p f i v → PassesFind t p.now log f i v.seat → PassesFind t p'.now longer f' i v.seat
@@ -221,4 +221,4 @@ module _ (t : Table) (n : Now) (log : List Event) (f : Flow) (i : ℕ) where
   starts_find caller own call.BeginGrow finds = (tt, tt)
   starts_find caller own call.BeginShrink finds = (tt, tt)
   starts_find caller own call.BeginGrace finds = (tt, tt)
-  starts_find caller own (call.Sweep text) finds = (tt, (omega arith, tt))
+  starts_find caller own (call.Sweep text) finds = (tt, (omega arith, tt, tt))

@@ -55,6 +55,7 @@ use Rattle.cht_core.proofs.FewSteps.{any_make}
 use Rattle.cht_core.proofs.FoundSeats.{work_finds_stay, resize_left}
 use Rattle.cht_core.proofs.MachineCalls.{calls_try}
 use Rattle.cht_core.proofs.MachineSteps.{mapped, both_make}
+use Rattle.cht_core.proofs.SweepBuckets.{StaysAt, sweep_at}
 use Rattle.cht_core.proofs.SweepFound.{SweepCame, sweep_found}
 use Rattle.cht_core.proofs.Turns.{IfMakes, if_planned, past_by, flow_of}
 
@@ -145,11 +146,11 @@ module _ (t : Table) (m m' : Memory) (log : List Event) (f : Flow) (i : ℕ) (ta
   sweep_finds load passed s of known finds =
       mapped (FoundAfter []) (λ at. machine.Sweep (sweeps.goes_to s.asked at)) (sweep_turn s.asked s.along s.stage)
       (both_make (λ (does : Row (SweepAlong × SweepStage)). IsMade does.step m m' → Goes t m p f i [] does.step m' →
-      SweepCame t (past_by p i [] does.step m).now (log_by [] does.step) (flow_of p f i [] does.step m) i (does.next (found does.step m))) (λ (does : Row (SweepAlong × SweepStage)). Unit {0})
+      SweepCame t (past_by p i [] does.step m).now (log_by [] does.step) (flow_of p f i [] does.step m) i (does.next (found does.step m))) (StaysAt s.asked.hash)
       (λ (does : Row (SweepAlong × SweepStage)). FoundAfter [] does.step (λ word. machine.Sweep (sweeps.goes_to s.asked (does.next word)))) (sweep_turn s.asked s.along s.stage)
-      (λ does came none made goes. (tt, came made goes))
+      (λ does came at made goes. (tt, let (few, finds) = came made goes in (few, finds, at (found does.step m))))
       (sweep_found t m m' log f i table s.asked s.along of.shape of.number finds.1.0 s.stage of.sound known finds.1.1)
-      (any_make (λ (does : Row (SweepAlong × SweepStage)). Unit {0}) (λ does. tt) (sweep_turn s.asked s.along s.stage)))
+      (sweep_at m p f i s.asked s.along s.stage known finds.1.2))
 
   -- any machine
   pub machine_finds : (load : ℕ) (passed : List ℕ) (k : Machine) (s : Step) → IsOfSeat t p.now i k → KnowsMachine m p f i load passed k → PassesFind t p.now log f i (doing.Running k) → plan_of k ≡ plan.Step s

@@ -210,6 +210,7 @@ pub mod StateSteps
 pub mod StateWords
 pub mod StoreLevels
 pub mod SweepBounds
+pub mod SweepBuckets
 pub mod SweepFound
 pub mod SweepStages
 pub mod TableSteps

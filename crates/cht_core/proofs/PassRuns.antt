@@ -1,6 +1,7 @@
 -- A clean that is done, and a sweep of few slots, have unlinked what was dead as they began.
 use Rattle.std.proofs.Common.{◌≡◌, ℕ, ◌<◌, List, Option, Some, None, IfSome, refl, sym, ap, subst, ◌∙◌}
 use Rattle.intern_log.specs.declared.event.Event.{Event}
+use Rattle.intern_log.specs.declared.event.What.TheVariants as what
 use Rattle.intern_log.specs.Now.{Now}
 use Rattle.atomic_step.specs.declared.answer.Answer.{Answer}
 use Rattle.atomic_step.specs.declared.answer.Answer.TheVariants as answer
@@ -27,9 +28,10 @@ use Rattle.cht_core.specs.declared.seat.Seat.TheVariants as doing
 use Rattle.cht_core.specs.declared.table.Table.{Table}
 use Rattle.cht_core.specs.Invariant.{Inv}
 use Rattle.cht_core.specs.Memory.{Memory}
-use Rattle.cht_core.specs.Passes.{IsAny, IsOfBucket, PollFinds, SweptAll, PassesFind, SweepFinds, HasCleaned, HasSwept}
+use Rattle.cht_core.specs.Passes.{IsAny, IsAtHash, IsLast, IsOfBucket, PollFinds, SweptAll, SweepIsAt, PassesFind, SweepFinds, WereLiveSince, HasCleaned, HasSwept, is_lock}
 use Rattle.cht_core.specs.Past.{past_of}
 use Rattle.cht_core.specs.Runs.{word_in}
+use Rattle.cht_core.specs.Stage.{bucket_in}
 use Rattle.cht_core.specs.State.{Core, IsCore, seat_in, after_step}
 use Rattle.cht_core.specs.View.{View}
 use Rattle.cht_core.proofs.DeadSlots.{dead_unlinked}
@@ -51,14 +53,19 @@ module _ (t : Table) (m : Memory) (seat : ℕ → Option View) (log : List Event
       subst (PollFinds t n log k (work.Clean c)) answered (subst (λ (w : Work). PollFinds t n log k w q.answer) clean finds.1) in
       (told.1.0, told.1.1, dead_unlinked t log told.1.0 IsAny inv.told told.1.2)
 
-  -- and what was dead of a bucket as a sweep locked it, once the sweep has answered that it unlinked few slots
-  pub swept_when_answered : (w : Sweeping) (many : ℕ) → v.seat ≡ doing.Running (machine.Sweep w) → w.stage ≡ sweep.Answered (answer.Swept many) → many < 256 → HasSwept t.shape.min_level log k
+  -- and what was dead of the bucket of its hash as a sweep locked it, once the sweep has answered that it unlinked few slots
+  pub swept_when_answered : (w : Sweeping) (many : ℕ) → v.seat ≡ doing.Running (machine.Sweep w) → w.stage ≡ sweep.Answered (answer.Swept many) → many < 256 → HasSwept t.shape.min_level log k w.asked.hash
   swept_when_answered w many is_running stage few =
       let finds : PassesFind t n log inv.flow k (doing.Running (machine.Sweep w)) = subst (PassesFind t n log inv.flow k) is_running (inv.passes k v is) in
       let told : SweptAll n log k w.along.cleaning (answer.Swept many) = subst (SweepFinds t n log inv.flow k w.along.cleaning) stage finds.1.1 in
+      let at : IsAtHash w.asked.hash w.along.cleaning = subst (SweepIsAt w.asked.hash w.along.cleaning) stage finds.1.2 in
       let row : ℕ = w.along.cleaning.row in
-      let bucket : ℕ = w.along.cleaning.bucket in
-      (row, bucket, told.0, told.1, dead_unlinked t log told.0 (IsOfBucket n.seed row bucket) inv.told (told.2 few))
+      let bucket : ℕ = bucket_in row w.asked.hash in (
+        row,
+        told.0,
+        subst (λ (b : ℕ). IsLast is_lock k (what.Lock row b) log told.0) at told.1,
+        dead_unlinked t log told.0 (IsOfBucket n.seed row bucket) inv.told (subst (λ (b : ℕ). WereLiveSince n log told.0 (IsOfBucket n.seed row b)) at (told.2 few)),
+      )
 
 -- A STEP OF A STATE
 
@@ -111,6 +118,6 @@ module _ (d : Core) (core : IsCore d) (k : ℕ) (w : Sweeping) (s : Step) (many 
   stage : swept.stage ≡ sweep.Answered (answer.Swept many)
   stage = sweep_answered swept.asked swept.along swept.stage (answer.Swept many) (sym (plan_is (machine.Sweep swept)) ∙ ap plan_of (sym is_swept) ∙ answers)
 
-  pub swept_by_step : HasSwept d.table.shape.min_level (after_step d k (machine.Sweep w) s (word_in d s)).log k
+  pub swept_by_step : HasSwept d.table.shape.min_level (after_step d k (machine.Sweep w) s (word_in d s)).log k w.asked.hash
   swept_by_step = swept_when_answered d.table _ _ _ (running any_step_keeps any_word_fits d core k (machine.Sweep w) s at planned) k _
       (moves any_step_keeps any_word_fits d core k (machine.Sweep w) s at planned).own swept many (ap (λ (m : Machine). doing.Running m) is_swept) stage few

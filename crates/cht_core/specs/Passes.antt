@@ -89,7 +89,7 @@ pub record PassAt (t : Table) (n : Now) (log : List Event) (f : Flow) (at : ℕ)
   pub live : WereLiveSince n log at (IsOnList before)
   pub few : c.passed + uncounted + length behind ≤ t.shape.slots
 
--- a node whose count was loaded and that is to stay was live itself
+-- what a pass has found at each of its stages: a node whose count was loaded and that is to stay was live itself
 abbrev pub PassFinds : Table → Now → List Event → Flow → ℕ → Cleaning → PassStage → Type 0
 PassFinds t n log f at c (pass.LoadCount s) = PassAt t n log f at c s 1
 PassFinds t n log f at c (pass.LoadLink s None) = PassAt t n log f at c s 0 × WereLiveSince n log at (IsOnList (s ∷ []))
@@ -110,10 +110,11 @@ abbrev pub FreesAfter : Now → List Event → Cleaning → Freeing → ℕ → 
 FreesAfter n log c freeing.Again at = AreDone n log c at
 FreesAfter n log c freeing.Last at = WereLiveSince n log at IsAny
 
--- so it is since the seat took the resize lock
+-- so it is since the seat last took the resize lock
 abbrev pub SinceTaken : ℕ → List Event → (ℕ → Type 0) → Type 0
 SinceTaken i log Holds = SinceLast is_taken i what.ResizeTaken log Holds
 
+-- what a clean has found at each of its stages, since the seat took the resize lock
 abbrev pub CleanFinds : Table → Now → List Event → Flow → ℕ → Cleaning → CleanStage → Type 0
 CleanFinds t n log f i c clean.LoadLevel = Unit {0}
 CleanFinds t n log f i c (clean.Lock s) = SinceTaken i log (AreDone n log c)
@@ -127,6 +128,7 @@ CleanFinds t n log f i c clean.GiveResizeLock = SinceTaken i log (λ at. WereLiv
 abbrev pub LooksAtFew : Table → Cleaning → Type 0
 LooksAtFew t c = c.passed ≤ t.shape.slots
 
+-- what an unfinished work has found, if it is a clean
 abbrev pub WorkFinds : Table → Now → List Event → Flow → ℕ → Work → Type 0
 WorkFinds t n log f i (work.Clean c) = LooksAtFew t c.along.cleaning × CleanFinds t n log f i c.along.cleaning c.stage
 WorkFinds t n log f i (work.Resize r) = Unit {0}
@@ -138,7 +140,7 @@ PollFinds t n log i _ _ = Unit {0}
 
 -- A SWEEP
 
--- so it is since the seat locked the bucket
+-- so it is since the seat last locked a bucket, which was this one
 abbrev pub SinceLocked : ℕ → Cleaning → List Event → (ℕ → Type 0) → Type 0
 SinceLocked i c log Holds = SinceLast is_lock i (what.Lock c.row c.bucket) log Holds
 
@@ -151,6 +153,7 @@ abbrev pub SweptAll : Now → List Event → ℕ → Cleaning → Answer → Typ
 SweptAll n log i c (answer.Swept unlinked) = SweepsAll n log i c unlinked
 SweptAll n log i c _ = Unit {0}
 
+-- what a sweep has found at each of its stages
 abbrev pub SweepFinds : Table → Now → List Event → Flow → ℕ → Cleaning → SweepStage → Type 0
 SweepFinds t n log f i c sweep.Check = Unit {0}
 SweepFinds t n log f i c (sweep.Find s) = Unit {0}
@@ -163,14 +166,29 @@ SweepFinds t n log f i c (sweep.Grace s) = SweepsAll n log i c c.unlinked
 SweepFinds t n log f i c (sweep.Free s) = SweepsAll n log i c c.unlinked
 SweepFinds t n log f i c (sweep.Answered a) = SweptAll n log i c a
 
+-- the bucket is that of a hash; from its lock on a sweep is at the bucket of its own hash
+abbrev pub IsAtHash : ℕ → Cleaning → Type 0
+IsAtHash hash c = c.bucket ≡ bucket_in c.row hash
+
+abbrev pub SweepIsAt : ℕ → Cleaning → SweepStage → Type 0
+SweepIsAt hash c (sweep.Close closing.Clean) = IsAtHash hash c
+SweepIsAt hash c (sweep.Pass s) = IsAtHash hash c
+SweepIsAt hash c sweep.UnlockHead = IsAtHash hash c
+SweepIsAt hash c (sweep.Grace s) = IsAtHash hash c
+SweepIsAt hash c (sweep.Free s) = IsAtHash hash c
+SweepIsAt hash c (sweep.Answered (answer.Swept unlinked)) = IsAtHash hash c
+SweepIsAt hash c _ = Unit {0}
+
 -- A SEAT
 
 -- what a call that runs has found
 abbrev pub CallFinds : Table → Now → List Event → Flow → ℕ → Seat → Type 0
 CallFinds t n log f i (doing.Running (machine.Poll q)) = PollFinds t n log i q.work q.answer
-CallFinds t n log f i (doing.Running (machine.Sweep s)) = LooksAtFew t s.along.cleaning × SweepFinds t n log f i s.along.cleaning s.stage
+CallFinds t n log f i (doing.Running (machine.Sweep s)) =
+    LooksAtFew t s.along.cleaning × SweepFinds t n log f i s.along.cleaning s.stage × SweepIsAt s.asked.hash s.along.cleaning s.stage
 CallFinds t n log f i _ = Unit {0}
 
+-- and what the unfinished work of a seat has
 abbrev pub PassesFind : Table → Now → List Event → Flow → ℕ → Seat → Type 0
 PassesFind t n log f i s = IfSome (work_of s) (WorkFinds t n log f i) × CallFinds t n log f i s
 
@@ -189,7 +207,7 @@ DeadAreUnlinked min_level log at Which = (front back : List Event) → log ≡ f
 abbrev pub HasCleaned : ℕ → List Event → ℕ → Type 0
 HasCleaned min_level log i = (at : ℕ) × IsLast is_taken i what.ResizeTaken log at × DeadAreUnlinked min_level log at IsAny
 
--- since the seat locked a bucket for the last time each slot of that bucket that was linked and dead then was unlinked
-abbrev pub HasSwept : ℕ → List Event → ℕ → Type 0
-HasSwept min_level log i =
-    (row bucket at : ℕ) × IsLast is_lock i (what.Lock row bucket) log at × DeadAreUnlinked min_level log at (IsOfBucket (now_of min_level log).seed row bucket)
+-- the bucket that the seat locked for the last time is that of a hash, and since then each slot of it that was linked and dead was unlinked
+abbrev pub HasSwept : ℕ → List Event → ℕ → ℕ → Type 0
+HasSwept min_level log i hash =
+    (row at : ℕ) × IsLast is_lock i (what.Lock row (bucket_in row hash)) log at × DeadAreUnlinked min_level log at (IsOfBucket (now_of min_level log).seed row (bucket_in row hash))

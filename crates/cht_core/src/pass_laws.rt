@@ -44,12 +44,14 @@ pub fn a_clean_that_is_done_has_unlinked_what_was_dead()
         HasCleaned d.table.shape.min_level (after_step d k (machine.Poll q) s (word_in d s)).log k }
 {}
 
-/// A sweep that unlinked fewer than 256 slots has unlinked all that was dead in its bucket: since the place in the log at which its seat locked
-/// a bucket for the last time each slot of that bucket that was linked there with a dead entry was unlinked.
+/// A sweep that unlinked fewer than 256 slots has unlinked all that was dead in the bucket of its hash: the bucket that its seat locked for the
+/// last time is that one, and since the place of that event in the log each slot of the bucket that was linked there with a dead entry was
+/// unlinked.
 pub fn a_sweep_of_few_slots_has_unlinked_what_was_dead()
     ensures done { (t : Table) (m : Memory) (seat : ℕ → Option View) (log : List Event) → Inv t m seat log → (k : ℕ) (v : View) → seat k ≡ Some v → (w : Sweeping) (many : ℕ) →
-        v.seat ≡ doing.Running (machine.Sweep w) → w.stage ≡ sweep.Answered (answer.Swept many) → many < 256 → HasSwept t.shape.min_level log k }
+        v.seat ≡ doing.Running (machine.Sweep w) → w.stage ≡ sweep.Answered (answer.Swept many) → many < 256 →
+        HasSwept t.shape.min_level log k w.asked.hash }
     ensures answers { (d : Core) → IsCore d → (k : ℕ) (w : Sweeping) (s : Step) (many : ℕ) → seat_in d.seats k ≡ Some (doing.Running (machine.Sweep w)) →
         plan_of (machine.Sweep w) ≡ plan.Step s → plan_of (got_of (machine.Sweep w) (word_in d s)) ≡ plan.Answered (answer.Swept many) → many < 256 →
-        HasSwept d.table.shape.min_level (after_step d k (machine.Sweep w) s (word_in d s)).log k }
+        HasSwept d.table.shape.min_level (after_step d k (machine.Sweep w) s (word_in d s)).log k w.asked.hash }
 {}
