@@ -140,7 +140,7 @@ cleans_passed m p f i w c None row came = (row, came.0, came.1)
 cleans_passed m p f i w c (Some s) row came = (row, came.0, came.1)
 
 -- what is known after a step of the clean, but for its last
-cleans_on_with : (t : Table) (m m' : Memory) (p : Past) (f : Flow) (i : ℕ) (text : List ℕ) (w : CleanAlong) (s : CleanStage) → IsTable t m p f → IsSoundClean t.shape w s
+pub cleans_on_with : (t : Table) (m m' : Memory) (p : Past) (f : Flow) (i : ℕ) (text : List ℕ) (w : CleanAlong) (s : CleanStage) → IsTable t m p f → IsSoundClean t.shape w s
     → Resizing p.now f i p.now.level Quiet NoHead → IsMade (clean_row t.shape w s).step m m' → Goes t m p f i text (clean_row t.shape w s).step m' → s ≢ clean.GiveResizeLock
     → KnowsCleaning m p f i w s
     → KnowsWent m' (past_by p i text (clean_row t.shape w s).step m) (flow_of p f i text (clean_row t.shape w s).step m) i ((clean_row t.shape w s).next (found (clean_row t.shape w s).step m))

@@ -94,7 +94,7 @@ module _ (seed level b : ℕ) where
 -- SLOTS
 
 -- a slot that is linked after an event was linked before it, or the event made its entry
-linked_before : (n : Now) (i : ℕ) (w : What) (s : ℕ) (text : List ℕ) (h : Handle) (at : ℕ) → (changed_by n i w).slot s ≡ Linked text h at → (n.slot s ≡ Linked text h at) ⊎ ((w ≡ what.Create text h) × (h.slot ≡ s))
+pub linked_before : (n : Now) (i : ℕ) (w : What) (s : ℕ) (text : List ℕ) (h : Handle) (at : ℕ) → (changed_by n i w).slot s ≡ Linked text h at → (n.slot s ≡ Linked text h at) ⊎ ((w ≡ what.Create text h) × (h.slot ≡ s))
 linked_before n i (what.Create a k) s text h at is = elim (cases_eq s k.slot) [
   | inl same ↦ (
       let both : Linked a k n.place ≡ Linked text h at = sym (with_here n.slot k.slot (Linked a k n.place) s same) ∙ is in

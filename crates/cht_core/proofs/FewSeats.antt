@@ -47,7 +47,7 @@ use Rattle.cht_core.proofs.FewGraces.{few_stays}
 use Rattle.cht_core.proofs.ResizeOwner.{resize_owner}
 
 -- what is so of what may be there goes over
-if_some : {A : Type 0} (P Q : A → Type 0) (o : Option A) → ((a : A) → o ≡ Some a → P a → Q a) → IfSome o P → IfSome o Q
+pub if_some : {A : Type 0} (P Q : A → Type 0) (o : Option A) → ((a : A) → o ≡ Some a → P a → Q a) → IfSome o P → IfSome o Q
 if_some P Q None over so = tt
 if_some P Q (Some a) over so = over a refl so
 

@@ -31,7 +31,7 @@ same_resize r (work.Clean c) same = absurd same
 same_resize r (work.Resize q) same = (q, refl, same)
 
 -- a poll that makes no step has answered
-has_answered : (caller : Caller) (w : Work) (a : Option Answer) (b : Answer) → plan_in (poll_turn caller (w, a)) ≡ plan.Answered b → a ≡ Some b
+pub has_answered : (caller : Caller) (w : Work) (a : Option Answer) (b : Answer) → plan_in (poll_turn caller (w, a)) ≡ plan.Answered b → a ≡ Some b
 has_answered caller w None b is = absurd (cc)
 has_answered caller w (Some a) b is = let same : a ≡ b = cc in ap (λ (x : Answer). Some x) same
 

@@ -20,11 +20,14 @@ use Rattle.cht_core.specs.Invariant.{Inv, Moves, events_of}
 use Rattle.cht_core.specs.Looks.{LooksAtFew}
 use Rattle.cht_core.specs.Memory.{Memory, found}
 use Rattle.cht_core.specs.Owes.{Owes, IsAllOf}
+use Rattle.cht_core.specs.Passes.{PassesFind}
 use Rattle.cht_core.specs.Past.{Past, past_of, told}
 use Rattle.cht_core.specs.TableState.{IsTable}
 use Rattle.cht_core.specs.View.{View, Knows, view_after}
+use Rattle.cht_core.proofs.CauseLogs.{told_more}
 use Rattle.cht_core.proofs.EnteredCounts.{no_fewer}
 use Rattle.cht_core.proofs.FewSeats.{seat_owner, seat_stays}
+use Rattle.cht_core.proofs.FoundSeats.{finds_stay}
 use Rattle.cht_core.proofs.LawfulKept.{lawful_told}
 use Rattle.cht_core.proofs.LooksStay.{seat_looks}
 use Rattle.cht_core.proofs.NumbersKept.{numbers_after_step, holds_after_step}
@@ -93,13 +96,24 @@ module _ (t : Table) (m m' : Memory) (seat seat' : ℕ → Option View) (log : L
     | inr differ ↦
         let was : seat j ≡ Some w = sym (moves.other j differ) ∙ at in
         seat_looks t.shape.slots m past inv.flow m' after flow j (goes.spares j differ).leaves t w (inv.knows j w was) (inv.looks j w was)
+
+  -- and what its passes have found
+  passes_all : Moves seat seat' i new_view → Goes t m past inv.flow i (machines.text_of k) s m' → PassesFind t after.now (log ++ events_of i event) flow i new_view.seat
+      → (j : ℕ) (w : View) → seat' j ≡ Some w → PassesFind t after.now (log ++ events_of i event) flow j w.seat
+  passes_all moves goes own j w at = elim (cases_eq j i) [
+    | inl same ↦ subst (λ n. PassesFind t after.now (log ++ events_of i event) flow n w.seat) (sym same)
+        (subst (λ (u : View). PassesFind t after.now (log ++ events_of i event) flow i u.seat) (same_view new_view w (sym moves.own ∙ ap seat' (sym same) ∙ at)) own)
+    | inr differ ↦
+        let was : seat j ≡ Some w = sym (moves.other j differ) ∙ at in
+        finds_stay t m log inv.flow flow j i event goes.grows.seed (goes.spares j differ).leaves.chains (inl (λ same. differ (sym same))) (inl (λ same. differ (sym same))) w (inv.knows j w was) (inv.passes j w was)
   ]
 
   -- the invariant after the step, from what the step comes to, and what its own seat knows and has then
   pub step_keeps : Moves seat seat' i new_view → Goes t m past inv.flow i (machines.text_of k) s m' → ((h : Handle) → event ≡ Some (what.Drop h) → 1 ≤ inv.flow.holds i h)
       → Knows t m' after flow i new_view → Owes after i new_view.seat → Bounds t m' seat' → UnlinkedLead t m' (log ++ events_of i event)
-      → GrowsWithFew after.now (log ++ events_of i event) flow new_view.seat → LooksAtFew t.shape.slots flow new_view.seat → Inv t m' seat' (log ++ events_of i event)
-  step_keeps moves goes drops knows owes bounds edges graces looks =
+      → GrowsWithFew after.now (log ++ events_of i event) flow new_view.seat → LooksAtFew t.shape.slots flow new_view.seat → PassesFind t after.now (log ++ events_of i event) flow i new_view.seat
+      → Inv t m' seat' (log ++ events_of i event)
+  step_keeps moves goes drops knows owes bounds edges graces looks passes =
       let told_is : past_of t.shape.min_level (log ++ events_of i event) ≡ after = past_of-told t.shape.min_level log i event in
       record {
         flow = flow;
@@ -109,8 +123,10 @@ module _ (t : Table) (m m' : Memory) (seat seat' : ℕ → Option View) (log : L
         bounds = bounds;
         numbers = numbers_after_step t seat seat' log i v new_view event is refl moves inv.numbers;
         holds = holds_after_step t seat seat' log i v new_view event is refl moves inv.flow.holds inv.numbers inv.holds drops;
+        told = told_more t log i event inv.told goes.told;
         lawful = lawful_told t log i event inv.lawful goes.told;
         edges = edges;
         graces = λ j w at. subst (λ (p : Past). GrowsWithFew p.now (log ++ events_of i event) flow w.seat) (sym told_is) (graces_all moves goes graces j w at);
         looks = looks_all moves goes looks;
+        passes = λ j w at. subst (λ (p : Past). PassesFind t p.now (log ++ events_of i event) flow j w.seat) (sym told_is) (passes_all moves goes passes j w at);
       }

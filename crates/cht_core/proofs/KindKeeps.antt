@@ -35,12 +35,14 @@ use Rattle.cht_core.specs.Invariant.{Inv, Moves, Keeps, events_of}
 use Rattle.cht_core.specs.Looks.{LooksAtFew}
 use Rattle.cht_core.specs.Memory.{Memory, IsMade, found}
 use Rattle.cht_core.specs.Owes.{Owes, IsAllOf}
+use Rattle.cht_core.specs.Passes.{PassesFind}
 use Rattle.cht_core.specs.Past.{Past, past_of, told, MayTell, kind_of}
 use Rattle.cht_core.specs.View.{View, IsOfSeat, KnowsMachine, Knows, view_after}
 use Rattle.cht_core.proofs.BoundsKept.{draws_fit, raise_fits, bounds_kept_by_step}
 use Rattle.cht_core.proofs.EdgesKept.{unlinked_lead_after}
 use Rattle.cht_core.proofs.FewSteps.{machine_few}
 use Rattle.cht_core.proofs.Finds.{finds}
+use Rattle.cht_core.proofs.FoundSteps.{machine_finds}
 use Rattle.cht_core.proofs.GraceStages.{CanRaise}
 use Rattle.cht_core.proofs.Keeps.{step_keeps}
 use Rattle.cht_core.proofs.KindSteps.{StepsKeep}
@@ -114,6 +116,9 @@ module _ (t : Table) (m m' : Memory) (seat seat' : ℕ → Option View) (log : L
   looks : LooksAtFew t.shape.slots inv.flow (doing.Running k)
   looks = subst (LooksAtFew t.shape.slots inv.flow) running (inv.looks i v is)
 
+  passes_find : PassesFind t p.now log inv.flow i (doing.Running k)
+  passes_find = subst (PassesFind t p.now log inv.flow i) running (inv.passes i v is)
+
   module _ (small : m place.Draws + 1 < 2 ^ 64) (may : CanRaise m s) where
     does : Does t m p inv.flow i v.load v.passed (text_of k) s (λ w. got_of k w)
     does = machine_does t m p inv.flow inv.table i inside v.load v.passed k s known.0 known.1 owes small may planned
@@ -144,7 +149,8 @@ module _ (t : Table) (m m' : Memory) (seat seat' : ℕ → Option View) (log : L
         step_keeps t m m' seat seat' log i v k s inv is moves goes (drops_held t m p inv.flow i (text_of k) s does.backs) (still_of, does.leads m' made goes) own bounds
         (unlinked_lead_after t m m' log inv.flow i (text_of k) s inv.table does.backs made inv.edges)
         (machine_few t m m' log inv.flow i inv.table v.load v.passed k s known.0 known.1 few planned made goes)
-        (machine_looks t m m' p inv.flow i inv.table v.load v.passed k s known.0 known.1 looks planned made goes) in
+        (machine_looks t m m' p inv.flow i inv.table v.load v.passed k s known.0 known.1 looks planned made goes)
+        (machine_finds t m m' log inv.flow i inv.table v.load v.passed k s known.0 known.1 passes_find planned made goes) in
         subst (λ (e : Option What). MayTell (kind_of t) p i e × Inv t m' seat' (log ++ events_of i e)) (sym (event_is k s (found s m) planned)) (goes.told, keeps)
 
 -- the law of a kind, by what its own steps keep

@@ -46,6 +46,7 @@ pub mod CauseWalks
 pub mod CauseWords
 pub mod CauseWorkHeads
 pub mod CauseWorks
+pub mod CleanFound
 pub mod CleanStages
 pub mod Consequences
 pub mod CountChanges
@@ -56,6 +57,7 @@ pub mod CreateChains
 pub mod CreateParts
 pub mod CreateSlots
 pub mod Creates
+pub mod DeadSlots
 pub mod EdgeWords
 pub mod EdgesKept
 pub mod EdgesLead
@@ -68,6 +70,8 @@ pub mod FewSteps
 pub mod FindStages
 pub mod Finds
 pub mod FlowHolds
+pub mod FoundSeats
+pub mod FoundSteps
 pub mod FreeStages
 pub mod GraceBounds
 pub mod GraceRuns
@@ -91,6 +95,7 @@ pub mod LevelStores
 pub mod LevelWholes
 pub mod LevelWords
 pub mod LiveCounts
+pub mod LiveSince
 pub mod Loads
 pub mod LockStages
 pub mod LockSteps
@@ -133,6 +138,9 @@ pub mod PartsResizePaths
 pub mod PartsResizeSides
 pub mod PartsResizeWalks
 pub mod PassBacks
+pub mod PassBounds
+pub mod PassFound
+pub mod PassRuns
 pub mod PassStages
 pub mod PassWaits
 pub mod PollBounds
@@ -209,6 +217,8 @@ pub mod StateSteps
 pub mod StateWords
 pub mod StoreLevels
 pub mod SweepBounds
+pub mod SweepBuckets
+pub mod SweepFound
 pub mod SweepStages
 pub mod TableSteps
 pub mod TidyKept

@@ -18,6 +18,7 @@ use Rattle.cht_core.specs.declared.table.Table.{Table}
 use Rattle.cht_core.specs.Bounds.{Bounds, of_seat, over_seats, draws_in, raises_in, work_of}
 use Rattle.cht_core.specs.Flow.{Flow}
 use Rattle.cht_core.specs.Graces.{GrowsWithFew}
+use Rattle.cht_core.specs.Passes.{PassesFind}
 use Rattle.cht_core.specs.Heads.{Heads}
 use Rattle.cht_core.specs.Invariant.{Inv, Numbers, Holds}
 use Rattle.cht_core.specs.Chains.{Chains}
@@ -285,8 +286,10 @@ module _ (t : Table) (m : Memory) (shape : IsSound t.shape) (even : t.first_coun
       bounds = opening_bounds;
       numbers = opening_numbers;
       holds = opening_holds;
+      told = tt;
       lawful = λ short. record { allowed = tt; fresh = tt };
       edges = λ s next k at is. absurd (cc);
       graces = λ k v is. subst (λ (x : View). GrowsWithFew (opening_past t).now [] opening_flow x.seat) (sym (only_first k v is).1) (tt, tt);
       looks = λ k v is. subst (λ (x : View). LooksAtFew t.shape.slots opening_flow x.seat) (sym (only_first k v is).1) tt;
+      passes = λ k v is. subst (λ (x : View). PassesFind t (opening_past t).now [] opening_flow k x.seat) (sym (only_first k v is).1) (tt, tt);
     }

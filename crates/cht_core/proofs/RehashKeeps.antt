@@ -17,6 +17,7 @@ use Rattle.cht_core.specs.declared.table.Table.{Table}
 use Rattle.cht_core.specs.Bounds.{Bounds}
 use Rattle.cht_core.specs.Flow.{Flow}
 use Rattle.cht_core.specs.Graces.{WorksWithFew, GrowsWithFew}
+use Rattle.cht_core.specs.Passes.{WorkFinds, PassesFind}
 use Rattle.cht_core.specs.Invariant.{Inv, Numbers, Holds}
 use Rattle.cht_core.specs.KnowsWork.{KnowsGrace, KnowsWork}
 use Rattle.cht_core.specs.Looks.{WorkLooksAtFew, LooksAtFew}
@@ -26,6 +27,7 @@ use Rattle.cht_core.specs.Past.{Past, past_of, past_after, by}
 use Rattle.cht_core.specs.Rehash.{IsRehashed, KeepsRehash, MayRehash, by_next_seed, seeds}
 use Rattle.cht_core.specs.TableState.{IsTable}
 use Rattle.cht_core.specs.View.{View, Knows, KnowsOwn, IsOwnOf}
+use Rattle.cht_core.proofs.CauseLogs.{told_more}
 use Rattle.cht_core.proofs.EdgesKept.{unlinked_lead_told}
 use Rattle.cht_core.proofs.LawfulKept.{lawful_told}
 use Rattle.cht_core.proofs.RehashChains.{flow_anew, heads_anew, chains_anew}
@@ -139,6 +141,11 @@ module _ (t : Table) (m m' : Memory) (seat : ℕ → Option View) (log : List Ev
       let free : (own : Own) × (v.seat ≡ doing.Idle own) × (own.work ≡ None) × (own.grace ≡ None) = free_seat v.seat (may.seats k v is) in
       subst (LooksAtFew t.shape.slots flow) (sym free.1) (none_known (WorkLooksAtFew t.shape.slots flow) free.0.work free.2)
 
+  passes_anew : (n : Now) (k : ℕ) (v : View) → seat k ≡ Some v → PassesFind t n log_after flow k v.seat
+  passes_anew n k v is =
+      let free : (own : Own) × (v.seat ≡ doing.Idle own) × (own.work ≡ None) × (own.grace ≡ None) = free_seat v.seat (may.seats k v is) in
+      subst (PassesFind t n log_after flow k) (sym free.1) (none_known (WorkFinds t n log_after flow k) free.0.work free.2, tt)
+
   inv_anew : Inv t m' seat log_after
   inv_anew =
       let told_is : past_of t.shape.min_level log_after ≡ after = past_of-one_more t.shape.min_level log (by 0 (seeds past_here.now)) in
@@ -150,11 +157,13 @@ module _ (t : Table) (m m' : Memory) (seat : ℕ → Option View) (log : List Ev
         bounds = bounds_anew;
         numbers = numbers_anew;
         holds = holds_anew;
+        told = told_more t log 0 (Some (seeds past_here.now)) inv.told (may_tell t m seat log inv may);
         lawful = lawful_told t log 0 (Some (seeds past_here.now)) inv.lawful (may_tell t m seat log inv may);
         edges = unlinked_lead_told t m m' log 0 (Some (seeds past_here.now)) inv.table.tidy inv.edges
             (λ s k at is. made.stay (place.Link s) (λ linked. let both : Unlinked k at ≡ Linked linked.0 linked.1 linked.2 = sym is ∙ linked.3 in cc)) (λ s next is. absurd (cc));
         graces = λ k v is. graces_anew (past_of t.shape.min_level log_after).now k v is;
         looks = looks_anew;
+        passes = λ k v is. passes_anew (past_of t.shape.min_level log_after).now k v is;
       }
 
 -- the law

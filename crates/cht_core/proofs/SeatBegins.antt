@@ -11,6 +11,7 @@ use Rattle.cht_core.specs.declared.seat.Seat.TheVariants as doing
 use Rattle.cht_core.specs.declared.table.Table.{Table}
 use Rattle.cht_core.specs.Begins.{MayBegin, IsHeld, begun_view}
 use Rattle.cht_core.specs.Graces.{GrowsWithFew}
+use Rattle.cht_core.specs.Passes.{PassesFind}
 use Rattle.cht_core.specs.Invariant.{Inv}
 use Rattle.cht_core.specs.Looks.{LooksAtFew}
 use Rattle.cht_core.specs.Memory.{Memory}
@@ -19,6 +20,7 @@ use Rattle.cht_core.specs.Past.{Past, past_of}
 use Rattle.cht_core.specs.View.{View, IsOwnOf, KnowsOwn, Knows}
 use Rattle.cht_core.proofs.FewSeats.{starts_few}
 use Rattle.cht_core.proofs.LooksStay.{starts_looks}
+use Rattle.cht_core.proofs.FoundSeats.{starts_find}
 use Rattle.cht_core.proofs.OwesRests.{owes_started}
 use Rattle.cht_core.proofs.SeatBeginCalls.{starts_begins}
 use Rattle.cht_core.proofs.SeatMoves.{IsNoMore, owed_by, moved_inv}
@@ -46,3 +48,4 @@ may_begin t m seat seat' log i v own c inv at idle may bytes meets moves =
     moved_inv t m seat seat' log i v (begun_view t p.now.seed v own c) inv at moves refl begins.0 (owes_started p i t.kind t.shape p.now.seed own c known.0.single may owed) less
     (starts_few p.now log inv.flow (caller_of t.kind t.shape p.now.seed own) own c (subst (GrowsWithFew p.now log inv.flow) idle (inv.graces i v at)))
     (starts_looks t.shape.slots inv.flow (caller_of t.kind t.shape p.now.seed own) own c (subst (LooksAtFew t.shape.slots inv.flow) idle (inv.looks i v at)))
+    (starts_find t p.now log inv.flow i (caller_of t.kind t.shape p.now.seed own) own c (subst (PassesFind t p.now log inv.flow i) idle (inv.passes i v at)))

@@ -1,5 +1,6 @@
 -- A seat may be added, and an idle seat without a work may be joined into another one.
 use Rattle.std.proofs.Common.{◌≡◌, ◌≢◌, true, false, ℕ, zero, suc, ◌+◌, ◌*◌, ◌/◌, ◌<◌, ◌≤◌, List, ◌++◌, Option, Some, None, inl, inr, refl, sym, ap, subst, ◌∙◌, arith}
+use Rattle.std.proofs.lemmas.List.{append-nil}
 use Rattle.std.specs.Option.{option_map}
 use Rattle.std.proofs.lemmas.Bool.{cases_eq}
 use Rattle.std.proofs.Math.Nat.{mul-le-mul_right, mul-div-le, suc-mul}
@@ -18,6 +19,7 @@ use Rattle.cht_core.specs.declared.table.Table.{Table}
 use Rattle.cht_core.specs.Begins.{MayBeAdded, MayJoin, Joins, first_own, new_view}
 use Rattle.cht_core.specs.Flow.{Flow}
 use Rattle.cht_core.specs.Graces.{GrowsWithFew}
+use Rattle.cht_core.specs.Passes.{PassesFind}
 use Rattle.cht_core.specs.Invariant.{Inv, Numbers, Holds}
 use Rattle.cht_core.specs.Ledger.{Balanced, sum_below}
 use Rattle.cht_core.specs.Looks.{LooksAtFew}
@@ -28,6 +30,7 @@ use Rattle.cht_core.specs.Search.{IsOutside}
 use Rattle.cht_core.specs.View.{View, IsOwnOf, KnowsOwn, Knows}
 use Rattle.cht_core.proofs.Basics.{with_here, with_other}
 use Rattle.cht_core.proofs.FewSeats.{seat_stays}
+use Rattle.cht_core.proofs.FoundSeats.{finds_stay}
 use Rattle.cht_core.proofs.FlowHolds.{with_holds, table_with_holds, knows_with_holds}
 use Rattle.cht_core.proofs.Ledgers.{sum_changed}
 use Rattle.cht_core.proofs.LooksStay.{same_looks}
@@ -74,10 +77,12 @@ may_be_added t m seat seat' log i inv free inside unused moves =
       bounds = bounds_kept t m seat seat' inv.bounds from;
       numbers = seats.0;
       holds = seats.1;
+      told = inv.told;
       lawful = inv.lawful;
       edges = inv.edges;
       graces = each_seat seat seat' i (new_view t.shape i) moves (λ k u. GrowsWithFew p.now log inv.flow u.seat) (tt, tt) (λ k u differ is. inv.graces k u is);
       looks = each_seat seat seat' i (new_view t.shape i) moves (λ k u. LooksAtFew t.shape.slots inv.flow u.seat) tt (λ k u differ is. inv.looks k u is);
+      passes = each_seat seat seat' i (new_view t.shape i) moves (λ k u. PassesFind t p.now log inv.flow k u.seat) (tt, tt) (λ k u differ is. inv.passes k u is);
     }
 
 -- the holds with those of one seat added to another one's
@@ -192,6 +197,10 @@ module _ (t : Table) (m : Memory) (seat seat' : ℕ → Option View) (log : List
   looks_after : (k : ℕ) (w : View) → seat k ≡ Some w → LooksAtFew t.shape.slots joined_flow w.seat
   looks_after k w is = same_looks t.shape.slots inv.flow joined_flow (λ x. refl) (λ row bucket. refl) w.seat (inv.looks k w is)
 
+  finds_after : (k : ℕ) (w : View) → seat k ≡ Some w → PassesFind t past_here.now log joined_flow k w.seat
+  finds_after k w is = subst (λ (l : List Event). PassesFind t past_here.now l joined_flow k w.seat) (append-nil log)
+      (finds_stay t m log inv.flow joined_flow k k None refl (λ row bucket used lock. refl) (inr tt) (inr tt) w (inv.knows k w is) (inv.passes k w is))
+
   nothing_after : OwesNothing past_here j
   nothing_after =
       let known : IsOwnOf t j own × KnowsOwn m past_here inv.flow j own =
@@ -227,10 +236,12 @@ module _ (t : Table) (m : Memory) (seat seat' : ℕ → Option View) (log : List
             (each_joined (λ k w. IsFrom (seat k) w.seat) (from_after i v joins.to) (λ k w differ other is. from_after k w is));
         numbers = seats.0;
         holds = seats.1;
+        told = inv.told;
         lawful = inv.lawful;
         edges = inv.edges;
         graces = each_joined (λ k w. GrowsWithFew past_here.now log joined_flow w.seat) (few_after i v joins.to) (λ k w differ other is. few_after k w is);
         looks = each_joined (λ k w. LooksAtFew t.shape.slots joined_flow w.seat) (looks_after i v joins.to) (λ k w differ other is. looks_after k w is);
+        passes = each_joined (λ k w. PassesFind t past_here.now log joined_flow k w.seat) (finds_after i v joins.to) (λ k w differ other is. finds_after k w is);
       }
 
 -- an idle seat without a work may be joined into another one, which then has the numbers and the holds of both

@@ -16,6 +16,7 @@ use Rattle.cht_core.specs.declared.seat.Seat.TheVariants as doing
 use Rattle.cht_core.specs.declared.table.Table.{Table}
 use Rattle.cht_core.specs.Bounds.{Bounds, draws_in, raises_in, raised_by, work_of, of_seat, over_seats}
 use Rattle.cht_core.specs.Graces.{GrowsWithFew}
+use Rattle.cht_core.specs.Passes.{PassesFind}
 use Rattle.cht_core.specs.Invariant.{Inv, Moves, Numbers, Holds}
 use Rattle.cht_core.specs.Ledger.{sum_below}
 use Rattle.cht_core.specs.Looks.{LooksAtFew}
@@ -150,8 +151,8 @@ module _ (t : Table) (m : Memory) (seat seat' : ℕ → Option View) (log : List
 
   -- a seat that keeps its numbers may be at something else that it knows, where it owes and may do no more
   pub moved_inv : v'.numbers ≡ v.numbers → Knows t m (past_of t.shape.min_level log) inv.flow i v' → Owes (past_of t.shape.min_level log) i v'.seat → IsNoMore v.seat v'.seat →
-      GrowsWithFew (past_of t.shape.min_level log).now log inv.flow v'.seat → LooksAtFew t.shape.slots inv.flow v'.seat → Inv t m seat' log
-  moved_inv same knows owes more few looks = record {
+      GrowsWithFew (past_of t.shape.min_level log).now log inv.flow v'.seat → LooksAtFew t.shape.slots inv.flow v'.seat → PassesFind t (past_of t.shape.min_level log).now log inv.flow i v'.seat → Inv t m seat' log
+  moved_inv same knows owes more few looks finds = record {
     flow = inv.flow;
     table = inv.table;
     knows = each_seat seat seat' i v' moves (λ k u. Knows t m (past_of t.shape.min_level log) inv.flow k u) knows (λ k u differ is. inv.knows k u is);
@@ -160,8 +161,10 @@ module _ (t : Table) (m : Memory) (seat seat' : ℕ → Option View) (log : List
     numbers = subst (λ l. Numbers t seat' l) (append-nil log) (numbers_after_step t seat seat' log i v v' None at same moves inv.numbers);
     holds = subst (λ l. Holds seat' l inv.flow.holds) (append-nil log)
         (holds_after_step t seat seat' log i v v' None at same moves inv.flow.holds inv.numbers inv.holds (λ h is. absurd (cc)));
+    told = inv.told;
     lawful = inv.lawful;
     edges = inv.edges;
     graces = each_seat seat seat' i v' moves (λ k u. GrowsWithFew (past_of t.shape.min_level log).now log inv.flow u.seat) few (λ k u differ is. inv.graces k u is);
     looks = each_seat seat seat' i v' moves (λ k u. LooksAtFew t.shape.slots inv.flow u.seat) looks (λ k u differ is. inv.looks k u is);
+    passes = each_seat seat seat' i v' moves (λ k u. PassesFind t (past_of t.shape.min_level log).now log inv.flow k u.seat) finds (λ k u differ is. inv.passes k u is);
   }

@@ -40,6 +40,7 @@ use Rattle.cht_core.specs.Begins.{MayRest, idle_view}
 use Rattle.cht_core.specs.Bounds.{raised_by, raises_left, raises_work}
 use Rattle.cht_core.specs.Flow.{Flow}
 use Rattle.cht_core.specs.Graces.{GrowsWithFew}
+use Rattle.cht_core.specs.Passes.{PassesFind}
 use Rattle.cht_core.specs.KnowsCall.{KnowsStage}
 use Rattle.cht_core.specs.KnowsWork.{KnowsLeft, KnowsBegin, KnowsSweep}
 use Rattle.cht_core.specs.Looks.{LooksAtFew}
@@ -50,6 +51,7 @@ use Rattle.cht_core.specs.Search.{IsOutside}
 use Rattle.cht_core.specs.View.{IsOfSeat, IsOwnOf, KnowsOwn, KnowsMachine, Knows}
 use Rattle.cht_core.proofs.FewSeats.{rests_few}
 use Rattle.cht_core.proofs.LooksStay.{rests_looks}
+use Rattle.cht_core.proofs.FoundSeats.{rests_find}
 use Rattle.cht_core.proofs.OwesRests.{owes_at_rest}
 use Rattle.cht_core.proofs.SeatMoves.{IsGoodPoll, IsNoMore, owed_by, moved_inv}
 
@@ -187,3 +189,4 @@ may_rest t m seat seat' log i v k a inv at running answered moves =
     (owes_at_rest p i k a known.0.sound owed answered)
     less (rests_few p.now log inv.flow k (subst (GrowsWithFew p.now log inv.flow) running (inv.graces i v at)))
     (rests_looks t.shape.slots inv.flow k (subst (LooksAtFew t.shape.slots inv.flow) running (inv.looks i v at)))
+    (rests_find t p.now log inv.flow i k (subst (PassesFind t p.now log inv.flow i) running (inv.passes i v at)))

@@ -24,7 +24,7 @@ use Rattle.cht_core.proofs.Stages.{old_is_closing, sent_named, next_is_another, 
 use Rattle.cht_core.proofs.WalkWords.{head_first, head_plain}
 
 -- what holds of each node of a list
-all_from_on : (P : ℕ → Type 0) (xs : List ℕ) → ((s : ℕ) → On s xs → P s) → All P xs
+pub all_from_on : (P : ℕ → Type 0) (xs : List ℕ) → ((s : ℕ) → On s xs → P s) → All P xs
 all_from_on P [] each k d below = absurd (omega (arith, below))
 all_from_on P (x ∷ xs) each zero d below = each x (inl refl)
 all_from_on P (x ∷ xs) each (suc k) d below = all_from_on P xs (λ s on. each s (inr on)) k d (omega (arith, below))

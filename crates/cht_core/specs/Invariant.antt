@@ -23,9 +23,11 @@ use Rattle.cht_core.specs.Graces.{GrowsWithFew}
 use Rattle.cht_core.specs.Looks.{LooksAtFew}
 use Rattle.cht_core.specs.Memory.{Memory, IsMade, found}
 use Rattle.cht_core.specs.Owes.{IsAllOf}
+use Rattle.cht_core.specs.Passes.{PassesFind}
 use Rattle.cht_core.specs.Past.{past_of, MayTell, kind_of, by}
 use Rattle.cht_core.specs.TableState.{IsTable}
 use Rattle.cht_core.specs.View.{View, view_after, Knows}
+use Rattle.cht_core.specs.Windows.{IsTold}
 
 -- each seat has its numbers for itself, and each event that callers see is by a number of a seat
 pub record Numbers (t : Table) (seat : ℕ → Option View) (log : List Event) : Type 0 where
@@ -47,10 +49,12 @@ pub record Inv (t : Table) (m : Memory) (seat : ℕ → Option View) (log : List
   pub bounds : Bounds t m seat
   pub numbers : Numbers t seat log
   pub holds : Holds seat log flow.holds
+  pub told : IsTold t log
   pub lawful : IsShort log → IsLawful (kind_of t) log
   pub edges : UnlinkedLead t m log
   pub graces : (k : ℕ) (v : View) → seat k ≡ Some v → GrowsWithFew (past_of t.shape.min_level log).now log flow v.seat
   pub looks : (k : ℕ) (v : View) → seat k ≡ Some v → LooksAtFew t.shape.slots flow v.seat
+  pub passes : (k : ℕ) (v : View) → seat k ≡ Some v → PassesFind t (past_of t.shape.min_level log).now log flow k v.seat
 
 -- one seat is at something else, and no other
 pub record Moves (seat seat' : ℕ → Option View) (i : ℕ) (v : View) : Type 0 where

@@ -21,6 +21,7 @@ pub mod Edges
 pub mod Graces
 pub mod Looks
 pub mod PollMeasure
+pub mod Passes
 pub mod Invariant
 pub mod Shows
 pub mod Rehash

@@ -6,6 +6,7 @@ mod condition;
 pub mod grace_bound_laws;
 pub mod kind_laws;
 pub mod part_laws;
+pub mod pass_laws;
 pub mod poll_laws;
 pub mod rehash;
 pub mod rehash_laws;
