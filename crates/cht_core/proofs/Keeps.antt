@@ -96,6 +96,7 @@ module _ (t : Table) (m m' : Memory) (seat seat' : ℕ → Option View) (log : L
     | inr differ ↦
         let was : seat j ≡ Some w = sym (moves.other j differ) ∙ at in
         seat_looks t.shape.slots m past inv.flow m' after flow j (goes.spares j differ).leaves t w (inv.knows j w was) (inv.looks j w was)
+  ]
 
   -- and what its passes have found
   passes_all : Moves seat seat' i new_view → Goes t m past inv.flow i (machines.text_of k) s m' → PassesFind t after.now (log ++ events_of i event) flow i new_view.seat
