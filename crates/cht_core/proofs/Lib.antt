@@ -87,6 +87,7 @@ pub mod Keeps
 pub mod KeepsRow
 pub mod KindKeeps
 pub mod KindSteps
+pub mod LastEvents
 pub mod LawfulKept
 pub mod LeaveStages
 pub mod Ledgers

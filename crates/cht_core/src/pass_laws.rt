@@ -1,6 +1,7 @@
 //! Laws of what the passes of cleans and sweeps look at, and what they leave. The functions do nothing: their contracts are the laws.
-ghost use Rattle.std.specs.Prelude.{◌≡◌, ◌<◌, ◌≤◌, ℕ, List, Option, Some};
+ghost use Rattle.std.specs.Prelude.{◌≡◌, ◌<◌, ◌≤◌, Bool, true, ℕ, List, Option, Some};
 ghost use Rattle.intern_log.specs.declared.event.Event.{Event};
+ghost use Rattle.intern_log.specs.declared.event.What.{What};
 ghost use Rattle.atomic_step.specs.declared.answer.Answer.TheVariants as answer;
 ghost use Rattle.atomic_step.specs.declared.answer.Worked.{Worked};
 ghost use Rattle.atomic_step.specs.declared.plan.Plan.TheVariants as plan;
@@ -17,7 +18,7 @@ ghost use Rattle.cht_core.specs.declared.table.Table.{Table};
 ghost use Rattle.cht_core.specs.Bounds.{work_of};
 ghost use Rattle.cht_core.specs.Invariant.{Inv};
 ghost use Rattle.cht_core.specs.Memory.{Memory};
-ghost use Rattle.cht_core.specs.Passes.{HasCleaned, HasSwept};
+ghost use Rattle.cht_core.specs.Passes.{IsLast, HasCleaned, HasSwept};
 ghost use Rattle.cht_core.specs.Runs.{word_in};
 ghost use Rattle.cht_core.specs.State.{Core, IsCore, seat_in, after_step};
 ghost use Rattle.cht_core.specs.View.{View};
@@ -54,4 +55,10 @@ pub fn a_sweep_of_few_slots_has_unlinked_what_was_dead()
     ensures answers { (d : Core) → IsCore d → (k : ℕ) (w : Sweeping) (s : Step) (many : ℕ) → seat_in d.seats k ≡ Some (doing.Running (machine.Sweep w)) →
         plan_of (machine.Sweep w) ≡ plan.Step s → plan_of (got_of (machine.Sweep w) (word_in d s)) ≡ plan.Answered (answer.Swept many) → many < 256 →
         HasSwept d.table.shape.min_level (after_step d k (machine.Sweep w) s (word_in d s)).log k w.asked.hash }
+{}
+
+/// A log has one last event of a seat that passes a test, at one place. So what a clean or a sweep has unlinked is said of one place.
+pub fn last_events_are_at_one_place()
+    ensures law { (passes : What → Bool) (i : ℕ) (last other : What) (log : List Event) (at place : ℕ) → passes last ≡ true → passes other ≡ true →
+        IsLast passes i last log at → IsLast passes i other log place → (last ≡ other) × (at ≡ place) }
 {}

@@ -46,6 +46,7 @@ fn laws_can_be_called() {
     pass_laws::passes_look_at_few_nodes();
     pass_laws::a_clean_that_is_done_has_unlinked_what_was_dead();
     pass_laws::a_sweep_of_few_slots_has_unlinked_what_was_dead();
+    pass_laws::last_events_are_at_one_place();
     rehash_laws::a_rehash_keeps_the_invariant();
     rehash_laws::a_table_is_quiet_before_a_rehash();
     rehash_laws::a_rehash_has_one_outcome();
