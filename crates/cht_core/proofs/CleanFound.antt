@@ -1,7 +1,7 @@
 -- What a clean has found after each of its steps.
-use Rattle.std.proofs.Common.{◌≡◌, ◌≢◌, ◌⊎◌, ◌==◌, Bool, true, false, cond, ℕ, ◌+◌, ◌^◌, ◌<◌, ◌≤◌, min, nat_lt, inl, inr, List, [], ◌∷◌, ◌++◌, length, Option, Some, None, IfSome, refl, sym, ap, subst, ◌∙◌, arith}
+use Rattle.std.proofs.Common.{◌≡◌, ◌≢◌, ◌⊎◌, ◌==◌, Bool, true, false, cond, ℕ, ◌+◌, ◌^◌, ◌<◌, ◌≤◌, min, nat_lt, inl, inr, List, [], ◌∷◌, ◌++◌, length, Option, Some, None, IfSome, refl, sym, subst, arith}
 use Rattle.std.specs.Prelude.{◌/◌, nat_le}
-use Rattle.std.proofs.lemmas.Bool.{cases_lt, eqb-true, eqb-false, ltb-false}
+use Rattle.std.proofs.lemmas.Bool.{cases_lt, eqb-false, ltb-false}
 use Rattle.std.proofs.lemmas.List.{append-nil}
 use Rattle.table_shape.specs.declared.place.Place.TheVariants as place
 use Rattle.table_shape.specs.declared.shape.Shape.{Shape}
@@ -9,7 +9,7 @@ use Rattle.text_words.specs.Hash.{hash_of}
 use Rattle.intern_log.specs.declared.event.Event.{Event}
 use Rattle.intern_log.specs.declared.event.What.{What}
 use Rattle.intern_log.specs.declared.event.What.TheVariants as what
-use Rattle.intern_log.specs.Now.{Now, owner_of}
+use Rattle.intern_log.specs.Now.{Now}
 use Rattle.atomic_step.specs.declared.answer.Answer.{Answer}
 use Rattle.atomic_step.specs.declared.answer.Answer.TheVariants as answer
 use Rattle.atomic_step.specs.Event.{event_of}
@@ -20,7 +20,6 @@ use Rattle.call_machine.specs.declared.clean.CleanStage.{CleanStage}
 use Rattle.call_machine.specs.declared.clean.CleanStage.TheVariants as clean
 use Rattle.call_machine.specs.declared.clean.Freeing.{Freeing}
 use Rattle.call_machine.specs.declared.clean.Freeing.TheVariants as freeing
-use Rattle.call_machine.specs.declared.grace.GraceStage.TheVariants as grace
 use Rattle.call_machine.specs.declared.grace.Gracing.{Gracing}
 use Rattle.call_machine.specs.declared.grace.Gracing.TheVariants as gracing
 use Rattle.call_machine.specs.declared.lock.LockStage.TheVariants as lock
@@ -31,7 +30,6 @@ use Rattle.call_machine.specs.declared.pass.FreeStage.{FreeStage}
 use Rattle.call_machine.specs.declared.pass.FreeStage.TheVariants as free
 use Rattle.call_machine.specs.declared.pass.PassStage.{PassStage}
 use Rattle.call_machine.specs.declared.pass.Waiting.{Waiting}
-use Rattle.call_machine.specs.declared.work.Work.{Work}
 use Rattle.call_machine.specs.declared.work.Work.TheVariants as work
 use Rattle.call_machine.specs.Clean.{Went, goes, clean_row, locks_on, cleans_on, counts_pass, waits_at, next_bucket, ends, raises, graces_on, frees_on}
 use Rattle.call_machine.specs.Grace.{grace_row, held_back, counts_grace}

@@ -1,5 +1,5 @@
 -- A linked slot whose entry is dead stays so until it is unlinked. So where no such slot is left of those of a place, each was unlinked.
-use Rattle.std.proofs.Common.{◌≡◌, ◌⊎◌, ℕ, ◌≤◌, inl, inr, List, [], ◌∷◌, ◌++◌, length, Option, Some, refl, sym, ap, subst, ◌∙◌, append_assoc, arith}
+use Rattle.std.proofs.Common.{◌≡◌, ◌⊎◌, ℕ, ◌≤◌, inl, inr, List, [], ◌∷◌, ◌++◌, length, sym, ap, subst, ◌∙◌, append_assoc, arith}
 use Rattle.std.proofs.lemmas.Bool.{cases_eq}
 use Rattle.intern_log.specs.declared.event.Event.{Event}
 use Rattle.intern_log.specs.declared.event.Handle.{Handle}
@@ -7,7 +7,7 @@ use Rattle.intern_log.specs.declared.event.What.{What}
 use Rattle.intern_log.specs.declared.event.What.TheVariants as what
 use Rattle.intern_log.specs.Lawful.{MayFree}
 use Rattle.intern_log.specs.Log.{map_of, next}
-use Rattle.intern_log.specs.Now.{Now, Claimed, Vacant, Linked, Unlinked, opening, changed_by, now_after, now_after_event, now_of}
+use Rattle.intern_log.specs.Now.{Now, Claimed, Vacant, Linked, Unlinked, opening, changed_by, now_after, now_of}
 use Rattle.intern_log.specs.TextMap.{IsLive}
 use Rattle.intern_log.proofs.Handles.{origin_in_map}
 use Rattle.intern_log.proofs.LawfulLaws.{now_after-append, texts-now_after}

@@ -1,5 +1,5 @@
 -- What was live since a place of a log still was as the log goes on, and which event of a seat was its last one.
-use Rattle.std.proofs.Common.{◌≡◌, ◌≢◌, ◌⊎◌, Bool, true, false, ℕ, ◌+◌, ◌<◌, ◌≤◌, inl, inr, List, [], ◌∷◌, ◌++◌, All, length, Option, Some, None, IfSome, refl, sym, ap, subst, ◌∙◌, append_assoc, arith}
+use Rattle.std.proofs.Common.{◌≡◌, ◌≢◌, ◌⊎◌, Bool, false, ℕ, ◌<◌, ◌≤◌, inl, inr, List, [], ◌∷◌, ◌++◌, length, Option, Some, None, IfSome, refl, sym, ap, subst, ◌∙◌, append_assoc, arith}
 use Rattle.std.specs.Option.{option_map}
 use Rattle.std.proofs.lemmas.List.Elements.{All-nil, All-push}
 use Rattle.std.proofs.lemmas.List.{append-nil, length-append}
@@ -7,7 +7,7 @@ use Rattle.intern_log.specs.declared.event.Event.{Event}
 use Rattle.intern_log.specs.declared.event.Handle.{Handle}
 use Rattle.intern_log.specs.declared.event.What.{What}
 use Rattle.intern_log.specs.declared.event.What.TheVariants as what
-use Rattle.intern_log.specs.Log.{map_of, next, new_entry}
+use Rattle.intern_log.specs.Log.{map_of, new_entry}
 use Rattle.intern_log.specs.Now.{Now, Linked, Resizing, opening, now_of, owner_of, changed_by, resizing_after_lock}
 use Rattle.intern_log.specs.TextMap.{IsLive}
 use Rattle.intern_log.proofs.LawfulLaws.{texts-now_after}

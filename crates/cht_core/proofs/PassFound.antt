@@ -1,5 +1,5 @@
 -- What a pass has found after each of its steps: it looks at few nodes, and those that stay were live since it began.
-use Rattle.std.proofs.Common.{◌≡◌, ◌≢◌, ◌⊎◌, ◌==◌, Bool, true, false, cond, ℕ, zero, suc, ◌+◌, ◌^◌, ◌<◌, ◌≤◌, min, nat_lt, inl, inr, List, [], ◌∷◌, ◌++◌, length, Option, Some, None, refl, sym, ap, subst, ◌∙◌, append_assoc, arith}
+use Rattle.std.proofs.Common.{◌≡◌, ◌⊎◌, ◌==◌, Bool, true, false, cond, ℕ, zero, suc, ◌+◌, ◌^◌, ◌<◌, ◌≤◌, min, nat_lt, inl, inr, List, [], ◌∷◌, ◌++◌, length, Option, Some, None, refl, sym, ap, subst, ◌∙◌, append_assoc, arith}
 use Rattle.std.proofs.lemmas.Bool.{eqb-true, eqb-false}
 use Rattle.std.proofs.lemmas.Bool.Decides.{nat_tests}
 use Rattle.std.proofs.lemmas.List.{append-nil, length-append}
@@ -21,7 +21,7 @@ use Rattle.atomic_step.proofs.Choices.{either_way}
 use Rattle.call_machine.specs.declared.pass.Cleaning.{Cleaning}
 use Rattle.call_machine.specs.declared.pass.PassStage.{PassStage}
 use Rattle.call_machine.specs.declared.pass.PassStage.TheVariants as pass
-use Rattle.call_machine.specs.Pass.{after_unlink, dead_of, first_behind, looks_at, pass_row, passes_on, unlinks}
+use Rattle.call_machine.specs.Pass.{after_unlink, dead_of, first_behind, looks_at, pass_row, passes_on}
 use Rattle.cht_core.specs.declared.table.Table.{Table}
 use Rattle.cht_core.specs.Flow.{Flow, IsUsed}
 use Rattle.cht_core.specs.Invariant.{events_of}
@@ -30,11 +30,10 @@ use Rattle.cht_core.specs.Memory.{Memory, found, links}
 use Rattle.cht_core.specs.Passes.{WereLiveSince, IsOnList, IsOfBucket, PassAt, PassFinds, LooksAtFew}
 use Rattle.cht_core.specs.Past.{Past, past_of, told}
 use Rattle.cht_core.specs.Slots.{count_in}
-use Rattle.cht_core.specs.Stage.{bucket_in}
 use Rattle.cht_core.specs.TableState.{IsTable}
 use Rattle.cht_core.proofs.Counts.{counted_has, count_small, holds_in_word}
 use Rattle.cht_core.proofs.HeadWords.{node_of_link}
-use Rattle.cht_core.proofs.LiveSince.{live_at_end, live_longer, were_live_told}
+use Rattle.cht_core.proofs.LiveSince.{live_at_end, were_live_told}
 use Rattle.cht_core.proofs.Locking.{locked_path}
 use Rattle.cht_core.proofs.Turns.{past_by, flow_of}
 use Rattle.cht_core.proofs.TwoChains.{exact_one, used_comes}

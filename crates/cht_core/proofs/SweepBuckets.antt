@@ -1,5 +1,5 @@
 -- From its lock on a sweep is at the bucket of its hash.
-use Rattle.std.proofs.Common.{◌≡◌, ◌==◌, Bool, true, false, cond, ℕ, ◌^◌, List, [], ◌∷◌, Option, Some, None, refl, sym, ap, ◌∙◌}
+use Rattle.std.proofs.Common.{◌≡◌, ◌==◌, Bool, true, false, cond, ℕ, ◌^◌, List, [], ◌∷◌, Option, Some, None, sym, ap, ◌∙◌}
 use Rattle.std.specs.Prelude.{nat_le}
 use Rattle.marked_word.specs.Head.{first_of, is_locked}
 use Rattle.atomic_step.specs.declared.answer.Answer.TheVariants as answer

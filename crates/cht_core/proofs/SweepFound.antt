@@ -1,10 +1,9 @@
 -- What a sweep has found after each of its steps.
-use Rattle.std.proofs.Common.{◌≡◌, ◌⊎◌, ◌==◌, Bool, true, false, cond, ℕ, ◌+◌, ◌^◌, ◌<◌, ◌≤◌, min, inl, inr, List, [], ◌∷◌, ◌++◌, length, Option, Some, None, IfSome, refl, sym, ap, subst, ◌∙◌, arith}
+use Rattle.std.proofs.Common.{◌≡◌, ◌==◌, Bool, true, false, cond, ℕ, ◌^◌, ◌<◌, ◌≤◌, min, inl, inr, List, [], ◌∷◌, ◌++◌, length, Option, Some, None, IfSome, refl, sym, ap, subst, ◌∙◌, arith}
 use Rattle.std.specs.Prelude.{nat_le}
 use Rattle.std.proofs.lemmas.Bool.Decides.{nat_tests}
 use Rattle.marked_word.specs.Head.{first_of, is_locked}
 use Rattle.table_shape.specs.declared.place.Place.TheVariants as place
-use Rattle.table_shape.specs.declared.shape.Shape.{Shape}
 use Rattle.intern_log.specs.declared.event.Event.{Event}
 use Rattle.intern_log.specs.declared.event.What.{What}
 use Rattle.intern_log.specs.declared.event.What.TheVariants as what
@@ -13,9 +12,7 @@ use Rattle.atomic_step.specs.declared.answer.Answer.TheVariants as answer
 use Rattle.atomic_step.specs.declared.step.Step.TheVariants as step
 use Rattle.atomic_step.specs.Event.{event_of}
 use Rattle.atomic_step.specs.Turn.{Row}
-use Rattle.atomic_step.proofs.Choices.{either_way}
 use Rattle.call_machine.specs.declared.find.FindStage.{FindStage}
-use Rattle.call_machine.specs.declared.find.Walk.{Walk}
 use Rattle.call_machine.specs.declared.grace.Grace.{Grace}
 use Rattle.call_machine.specs.declared.grace.GraceStage.{GraceStage}
 use Rattle.call_machine.specs.declared.grace.GraceStage.TheVariants as grace
@@ -29,7 +26,6 @@ use Rattle.call_machine.specs.declared.pass.FreeStage.TheVariants as free
 use Rattle.call_machine.specs.declared.pass.PassStage.{PassStage}
 use Rattle.call_machine.specs.declared.pass.PassStage.TheVariants as pass
 use Rattle.call_machine.specs.declared.pass.Waiting.{Waiting}
-use Rattle.call_machine.specs.declared.sweep.Closing.{Closing}
 use Rattle.call_machine.specs.declared.sweep.Closing.TheVariants as closing
 use Rattle.call_machine.specs.declared.sweep.SweepAlong.{SweepAlong}
 use Rattle.call_machine.specs.declared.sweep.SweepAsked.{SweepAsked}
@@ -38,9 +34,9 @@ use Rattle.call_machine.specs.declared.sweep.SweepStage.TheVariants as sweep
 use Rattle.call_machine.specs.Find.{find_row}
 use Rattle.call_machine.specs.Grace.{grace_row}
 use Rattle.call_machine.specs.Lock.{lock_row}
-use Rattle.call_machine.specs.Pass.{begins_pass, free_row, no_cleaning, pass_row, passes_on}
+use Rattle.call_machine.specs.Pass.{free_row, pass_row, passes_on}
 use Rattle.call_machine.specs.SoundSweep.{IsSoundSweepAt}
-use Rattle.call_machine.specs.Sweep.{sweep_turn, checked, finds_anew, finds_on, locks_on, closed, cleans_on, swept, unlocked, graces_on, frees_on}
+use Rattle.call_machine.specs.Sweep.{sweep_turn, checked, finds_anew, finds_on, locks_on, cleans_on, swept, unlocked, graces_on, frees_on}
 use Rattle.cht_core.specs.declared.table.Table.{Table}
 use Rattle.cht_core.specs.Backs.{Goes}
 use Rattle.cht_core.specs.Flow.{Flow}

@@ -59,6 +59,6 @@ pub fn a_sweep_of_few_slots_has_unlinked_what_was_dead()
 
 /// A log has one last event of a seat that passes a test, at one place. So what a clean or a sweep has unlinked is said of one place.
 pub fn last_events_are_at_one_place()
-    ensures law { (passes : What → Bool) (i : ℕ) (last other : What) (log : List Event) (at place : ℕ) → passes last ≡ true → passes other ≡ true →
+    ensures one { (passes : What → Bool) (i : ℕ) (last other : What) (log : List Event) (at place : ℕ) → passes last ≡ true → passes other ≡ true →
         IsLast passes i last log at → IsLast passes i other log place → (last ≡ other) × (at ≡ place) }
 {}
