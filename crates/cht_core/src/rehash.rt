@@ -107,7 +107,7 @@ fn linked_after(slot: u32, linked: bool, what: &What) -> bool
 
 /// Makes the hash of each counted slot and the chains of the level's row anew by a seed. `text` has
 /// room for the bytes of a text.
-pub(crate) fn make_anew(words: &mut [u64], shape: &Shape, level: u8, seed: u32, text: &mut [u8])
+pub fn make_anew(words: &mut [u64], shape: &Shape, level: u8, seed: u32, text: &mut [u8])
     requires shape { IsSound shape.now }
     requires sized { length words.old ≡ words_of shape.now }
     requires level { (shape.now.min_level ≤ level) × (level ≤ shape.now.max_level) }

@@ -1,0 +1,80 @@
+use Rattle.std.proofs.Common.{◌≡◌, ⊎_elim, ℕ, ◌+◌, ◌%◌, ◌^◌, ◌==◌, true, Some, sym, ap, ◌∙◌, refl}
+use prog.Atomic.{either}
+use Rattle.atomic_step.specs.declared.access.Deed.{Deed}
+use Rattle.atomic_step.specs.Access.{word_after}
+use Rattle.cht_run.proofs.Deeds.{step_is_sound, further, exchanged, goes_on_stays, goes_on_fits}
+use Rattle.cht_run.proofs.table.Cht.act.Goals as goal
+
+pub access-access-requires : goal.access-access-requires
+access-access-requires c = record { value = (step_is_sound c.args.self.now.origin c.args.seat.now.me.0 c.args.step c.requires.sits.seat c.requires.next c.requires.sound).1 }
+
+pub index-at-requires-clause-inside : goal.index-at-requires-clause-inside
+index-at-requires-clause-inside c = rw c.access-access.ensures.value (step_is_sound c.args.self.now.origin c.args.seat.now.me.0 c.args.step c.requires.sits.seat c.requires.next c.requires.sound).0
+
+pub load-requires : goal.load-requires
+load-requires c =
+    let s = c.args.self.now in
+    let v = c.args.seat.now.me in
+    let asks = further s.table.shared.key.origin s.origin s.table.shared.table_id.words s.table.shared.table_id.slots c.args.seat.now.id v c.args.step c.access-access.result c.index-at.result s.of s.wide
+    c.requires.sits.origin (step_is_sound s.origin v.0 c.args.step c.requires.sits.seat c.requires.next c.requires.sound) c.access-access.ensures.value c.index-at.ensures.value (λ n. n)
+    (λ n. sym (ap (λ (d : Deed). word_after d n) c.in-Load.is)) c.requires.sits.seat c.requires.next in
+    (c.requires.sits.table, asks.0, asks.1)
+
+pub fetch_add-requires : goal.fetch_add-requires
+fetch_add-requires c =
+    let s = c.args.self.now in
+    let v = c.args.seat.now.me in
+    let asks = further s.table.shared.key.origin s.origin s.table.shared.table_id.words s.table.shared.table_id.slots c.args.seat.now.id v c.args.step c.access-access.result c.index-at.result s.of s.wide
+    c.requires.sits.origin (step_is_sound s.origin v.0 c.args.step c.requires.sits.seat c.requires.next c.requires.sound) c.access-access.ensures.value c.index-at.ensures.value (λ n. (n + c.in-Add.value) % 2 ^ 64)
+    (λ n. sym (ap (λ (d : Deed). word_after d n) c.in-Add.is)) c.requires.sits.seat c.requires.next in
+    (c.requires.sits.table, asks.0, asks.1)
+
+pub compare_exchange-requires : goal.compare_exchange-requires
+compare_exchange-requires c =
+    let s = c.args.self.now in
+    let v = c.args.seat.now.me in
+    let asks = further s.table.shared.key.origin s.origin s.table.shared.table_id.words s.table.shared.table_id.slots c.args.seat.now.id v c.args.step c.access-access.result c.index-at.result s.of s.wide
+    c.requires.sits.origin (step_is_sound s.origin v.0 c.args.step c.requires.sits.seat c.requires.next c.requires.sound) c.access-access.ensures.value c.index-at.ensures.value (λ n. either (n == c.in-Exchange.old) c.in-Exchange.new n)
+    (λ n. exchanged (n == c.in-Exchange.old) c.in-Exchange.new n ∙ sym (ap (λ (d : Deed). word_after d n) c.in-Exchange.is)) c.requires.sits.seat c.requires.next in
+    (c.requires.sits.table, asks.0, asks.1)
+
+pub swap-requires : goal.swap-requires
+swap-requires c =
+    let s = c.args.self.now in
+    let v = c.args.seat.now.me in
+    let asks = further s.table.shared.key.origin s.origin s.table.shared.table_id.words s.table.shared.table_id.slots c.args.seat.now.id v c.args.step c.access-access.result c.index-at.result s.of s.wide
+    c.requires.sits.origin (step_is_sound s.origin v.0 c.args.step c.requires.sits.seat c.requires.next c.requires.sound) c.access-access.ensures.value c.index-at.ensures.value (λ n. c.in-Store.value)
+    (λ n. ⊎_elim (λ is. sym (ap (λ (d : Deed). word_after d n) is)) (λ is. sym (ap (λ (d : Deed). word_after d n) is)) c.in-Store.is) c.requires.sits.seat c.requires.next in
+    (c.requires.sits.table, asks.0, asks.1)
+
+pub returns-in-Load-clause-sits : goal.returns-in-Load-clause-sits
+returns-in-Load-clause-sits c =
+    let stays = goes_on_stays c.args.seat.now.me.0 c.load.new.seat.me.0 c.args.step c.load.result c.requires.sits.seat c.requires.next c.load.ensures.2.0 in
+    record { table = c.load.ensures.0 ∙ c.requires.sits.table; origin = stays.0 ∙ c.requires.sits.origin; seat = stays.1 ∙ c.requires.sits.seat; bare = c.load.ensures.2.1 ∙ c.requires.sits.bare }
+
+pub returns-in-Add-clause-sits : goal.returns-in-Add-clause-sits
+returns-in-Add-clause-sits c =
+    let stays = goes_on_stays c.args.seat.now.me.0 c.fetch_add.new.seat.me.0 c.args.step c.fetch_add.result c.requires.sits.seat c.requires.next c.fetch_add.ensures.2.0 in
+    record { table = c.fetch_add.ensures.0 ∙ c.requires.sits.table; origin = stays.0 ∙ c.requires.sits.origin; seat = stays.1 ∙ c.requires.sits.seat; bare = c.fetch_add.ensures.2.1 ∙ c.requires.sits.bare }
+
+pub returns-in-Exchange-clause-sits : goal.returns-in-Exchange-clause-sits
+returns-in-Exchange-clause-sits c =
+    let stays = goes_on_stays c.args.seat.now.me.0 c.compare_exchange.new.seat.me.0 c.args.step c.compare_exchange.result c.requires.sits.seat c.requires.next c.compare_exchange.ensures.2.0 in
+    record { table = c.compare_exchange.ensures.0 ∙ c.requires.sits.table; origin = stays.0 ∙ c.requires.sits.origin; seat = stays.1 ∙ c.requires.sits.seat; bare = c.compare_exchange.ensures.2.1 ∙ c.requires.sits.bare }
+
+pub returns-in-Store-clause-sits : goal.returns-in-Store-clause-sits
+returns-in-Store-clause-sits c =
+    let stays = goes_on_stays c.args.seat.now.me.0 c.swap.new.seat.me.0 c.args.step c.swap.result c.requires.sits.seat c.requires.next c.swap.ensures.2.0 in
+    record { table = c.swap.ensures.0 ∙ c.requires.sits.table; origin = stays.0 ∙ c.requires.sits.origin; seat = stays.1 ∙ c.requires.sits.seat; bare = c.swap.ensures.2.1 ∙ c.requires.sits.bare }
+
+pub returns-in-Load-clause-fits : goal.returns-in-Load-clause-fits
+returns-in-Load-clause-fits c = goes_on_fits c.args.seat.now.me.0 c.load.new.seat.me.0 c.args.step c.load.result c.requires.sits.seat c.requires.next c.load.ensures.2.0
+
+pub returns-in-Add-clause-fits : goal.returns-in-Add-clause-fits
+returns-in-Add-clause-fits c = goes_on_fits c.args.seat.now.me.0 c.fetch_add.new.seat.me.0 c.args.step c.fetch_add.result c.requires.sits.seat c.requires.next c.fetch_add.ensures.2.0
+
+pub returns-in-Exchange-clause-fits : goal.returns-in-Exchange-clause-fits
+returns-in-Exchange-clause-fits c = goes_on_fits c.args.seat.now.me.0 c.compare_exchange.new.seat.me.0 c.args.step c.compare_exchange.result c.requires.sits.seat c.requires.next c.compare_exchange.ensures.2.0
+
+pub returns-in-Store-clause-fits : goal.returns-in-Store-clause-fits
+returns-in-Store-clause-fits c = goes_on_fits c.args.seat.now.me.0 c.swap.new.seat.me.0 c.args.step c.swap.result c.requires.sits.seat c.requires.next c.swap.ensures.2.0

@@ -1,0 +1,51 @@
+use Rattle.std.proofs.Common.{◌≡◌, ◌∙◌, ℕ, List, [], ◌∷◌, true, sym, ap, subst, arith}
+use Rattle.atomic_table.specs.Table.{Me}
+use Rattle.cht_run.specs.declared.sight.Entry.{Entry}
+use Rattle.cht_run.specs.declared.sight.Origin.{Origin}
+use Rattle.cht_run.specs.declared.sight.Sight.{Sight}
+use Rattle.cht_run.specs.History.{HasHandles, Follows, Remembers}
+use Rattle.cht_run.specs.Rule.{is_seat}
+use Rattle.cht_run.specs.Views.{longer, earlier_of}
+use Rattle.cht_run.proofs.Handles.{longer_handles}
+use Rattle.cht_run.proofs.Joining.{hearing, recalls, of_first, of_second}
+use Rattle.cht_run.proofs.table.Cht.hear.Goals as goal
+
+pub join_seat-requires : goal.join_seat-requires
+join_seat-requires c =
+    let t = c.args.self.now in
+    let v = c.args.seat.now.raw in
+    let w = c.args.note in
+    let wide = t.wide in
+    (c.requires.of.table, c.requires.note.0, c.requires.note.2, omega (arith, wide), hearing t.table.shared.key.origin v.id v.me.0 w.id w.me.0 c.requires.note.1)
+
+pub load-requires : goal.load-requires
+load-requires c =
+    let t = c.args.self.now in
+    let v = c.join_seat.new.seat in
+    let wide = t.wide in
+    (c.join_seat.ensures.0 ∙ c.requires.of.table, omega (arith, wide), recalls t.table.shared.key.origin t.table.shared.table_id.slots v.id v.me)
+
+pub returns-clause-own : goal.returns-clause-own
+returns-clause-own c =
+    let v = c.args.seat.now.raw.me.0 in
+    let w = c.args.note.me.0 in
+    let told : Remembers (longer v.history w.history) (earlier_of v ∷ earlier_of w ∷ []) = subst (λ (me : Me (Unit {0}) Sight). Remembers me.0.history me.0.earlier) c.join_seat.ensures.2 c.load.ensures.2.1 in
+    subst (λ (h : List Entry). Follows v.numbers v.history h) (sym (ap (λ (me : Me (Unit {0}) Sight). me.0.history) (c.load.ensures.2.0 ∙ c.join_seat.ensures.2))) (of_first v w (longer v.history w.history) told)
+
+pub returns-clause-noted : goal.returns-clause-noted
+returns-clause-noted c =
+    let v = c.args.seat.now.raw.me.0 in
+    let w = c.args.note.me.0 in
+    let told : Remembers (longer v.history w.history) (earlier_of v ∷ earlier_of w ∷ []) = subst (λ (me : Me (Unit {0}) Sight). Remembers me.0.history me.0.earlier) c.join_seat.ensures.2 c.load.ensures.2.1 in
+    let noted : Follows [] w.history (longer v.history w.history) = subst (λ (numbers : List ℕ). Follows numbers w.history (longer v.history w.history)) c.requires.note.1 (of_second v w (longer v.history w.history) told) in
+    subst (λ (h : List Entry). Follows [] w.history h) (sym (ap (λ (me : Me (Unit {0}) Sight). me.0.history) (c.load.ensures.2.0 ∙ c.join_seat.ensures.2))) noted
+
+pub invariant_of-seat-clause-handles : goal.invariant_of-seat-clause-handles
+invariant_of-seat-clause-handles c =
+    let v = c.args.seat.now.raw.me.0 in
+    let w = c.args.note.me.0 in
+    subst (λ (me : Me (Unit {0}) Sight). HasHandles me.0.origin.table.shape me.0.history) (sym (c.load.ensures.2.0 ∙ c.join_seat.ensures.2))
+    (longer_handles v.origin.table.shape v.history w.history c.args.seat.now.handles (subst (λ (o : Origin). HasHandles o.table.shape w.history) (sym c.requires.of.origin) c.requires.handles))
+
+pub invariant_of-seat-clause-seat : goal.invariant_of-seat-clause-seat
+invariant_of-seat-clause-seat c = subst (λ (me : Me (Unit {0}) Sight). is_seat me.0 ≡ true) (sym (c.load.ensures.2.0 ∙ c.join_seat.ensures.2)) c.args.seat.now.seat

@@ -1,0 +1,10 @@
+use Rattle.std.proofs.Common.{refl}
+use Rattle.call_machine.specs.declared.call.Call.TheVariants as call
+use Rattle.call_machine.specs.declared.stage.Goal.TheVariants as goals
+use Rattle.cht_run.proofs.Walking.{walked}
+use Rattle.cht_run.proofs.table.Cht.intern_once.Goals as goal
+
+pub returns-clause-walked : goal.returns-clause-walked
+returns-clause-walked c =
+    walked c.args.self.now goals.Intern c.args.text.now (call.Intern c.seek-request.result.sought.text) c.args.seat.now _ c.seek-request.result c.intern_as-answer.result.0 c.intern_as-answer.result.1
+    c.seek-request.ensures.asked refl c.requires.of c.intern_as-answer.ensures.at

@@ -1,0 +1,11 @@
+use Rattle.std.proofs.Common.{refl, sym, ap}
+use Rattle.call_machine.specs.declared.insert.InsertStage.TheVariants as insert
+use Rattle.call_machine.specs.declared.stage.CallStage.TheVariants as stage
+use Rattle.call_machine.specs.Sought.{asked_of}
+use Rattle.cht_run.proofs.Goes.{goes}
+use Rattle.cht_run.proofs.table.Cht.own_count.Goals as goal
+
+pub returns-clause-at : goal.returns-clause-at
+returns-clause-at g c =
+    goes c.args.self.now g.M.Began.sight g.M.Began.call c.args.request.now _ _ _ _ (stage.Insert (insert.OwnCount c.args.slot)) _ _ c.act-count.result c.requires.at refl refl c.act-count.ensures.sits c.act-count.ensures.told
+    (ap (λ h. (c.args.along.now, stage.Insert (insert.PutMeta h))) (sym c.handle_at.ensures.value))

@@ -1,0 +1,12 @@
+use Rattle.std.proofs.Common.{refl, sym, ap}
+use Rattle.call_machine.specs.declared.insert.InsertStage.TheVariants as insert
+use Rattle.call_machine.specs.declared.stage.CallStage.TheVariants as stage
+use Rattle.call_machine.specs.Sought.{asked_of}
+use Rattle.cht_run.proofs.Goes.{goes}
+use Rattle.cht_run.proofs.table.Cht.put_text.Goals as goal
+
+pub returns : goal.returns
+returns g c = record {
+  at = goes c.args.self.now g.M.Began.sight g.M.Began.call c.args.request.now _ _ _ _ (stage.Insert (insert.PutText c.args.handle c.args.at)) _ _ c.act.result c.requires.at refl refl c.act.ensures.sits c.act.ensures.told
+      (refl);
+}

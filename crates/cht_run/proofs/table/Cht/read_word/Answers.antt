@@ -1,0 +1,16 @@
+use Rattle.std.proofs.Common.{refl, append-nil, ◌∙◌}
+use Rattle.call_machine.specs.declared.read.ReadStage.TheVariants as read
+use Rattle.call_machine.specs.declared.stage.CallStage.TheVariants as stage
+use Rattle.cht_run.specs.Reads.{done_by}
+use Rattle.cht_run.proofs.Goes.{goes}
+use Rattle.cht_run.proofs.TextReads.{further_done, further_longer, further_says}
+use Rattle.cht_run.proofs.table.Cht.read_word.Goals as goal
+
+pub returns : goal.returns
+returns g c = record {
+  at = goes c.args.self.now g.M.Began.sight g.M.Began.call c.args.request.now _ _ _ _ (stage.Read (read.Text c.args.at c.args.length)) _ _ c.act.result c.requires.at refl refl c.act.ensures.sits c.act.ensures.told refl;
+  own = further_done c.args.self.now g.M.Began.sight g.M.Began.call c.args.request.now c.args.seat.now c.act.new.seat c.args.along.now (stage.Read (read.Text c.args.at c.args.length)) _ c.act.result c.requires.at refl c.act.ensures.told
+      ∙ append-nil (done_by g.M.Began.sight.number c.args.seat.now.me.0);
+  says = further_says c.args.self.now g.M.Began.sight g.M.Began.call c.args.request.now c.args.seat.now c.act.new.seat c.args.along.now (stage.Read (read.Text c.args.at c.args.length)) _ c.act.result c.requires.at refl c.act.ensures.told refl;
+  longer = further_longer c.args.self.now g.M.Began.sight g.M.Began.call c.args.request.now c.args.seat.now c.act.new.seat c.args.along.now (stage.Read (read.Text c.args.at c.args.length)) _ c.act.result c.requires.at refl c.act.ensures.told;
+}
