@@ -12,6 +12,7 @@ use Rattle.atomic_step.specs.declared.answer.Answer.{Answer}
 use Rattle.atomic_step.specs.declared.plan.Plan.{Plan}
 use Rattle.atomic_step.specs.declared.plan.Plan.TheVariants as plan
 use Rattle.atomic_step.specs.declared.step.Step.{Step}
+use Rattle.atomic_step.specs.SoundStep.{HasSoundValue}
 use Rattle.call_machine.specs.declared.call.Call.{Call}
 use Rattle.call_machine.specs.declared.call.Call.TheVariants as call
 use Rattle.call_machine.specs.declared.enter.EnterStage.TheVariants as enter
@@ -63,6 +64,7 @@ use Rattle.cht_run.specs.Seats.{Raw, Sits}
 use Rattle.cht_run.specs.declared.table.Cht.{Cht}
 use Rattle.cht_run.specs.History.{log_of, by_of, NoneBy, entries_by, told_by}
 use Rattle.cht_run.specs.Told.{adds, tells, drew, kids_after, given_after, Found, Told, WorkFound}
+use Rattle.cht_run.proofs.Deeds.{step_is_sound}
 use Rattle.cht_run.proofs.Histories.{log-append, log_adds}
 
 -- EVENTS OF OTHERS
@@ -316,6 +318,10 @@ sound_at cht b c r raw w s at =
 
 pub next_is : (cht : Cht) (b : Sight) (c : Call) (r : Request) (raw : Raw) (w : Along) (s : CallStage) (stp : Step) → At cht b c r raw w s → plan_at (asked_of r) w s ≡ plan.Step stp → seat_next raw.me.0.seat ≡ Some stp
 next_is cht b c r raw w s stp at planned = ap seat_next at.stands.is ∙ ap step_by (plan_there b (asked_of r) w s ∙ planned)
+
+-- the values of its step are sound
+pub value_at : (cht : Cht) (b : Sight) (c : Call) (r : Request) (raw : Raw) (w : Along) (s : CallStage) (stp : Step) → At cht b c r raw w s → plan_at (asked_of r) w s ≡ plan.Step stp → HasSoundValue stp
+value_at cht b c r raw w s stp at planned = (step_is_sound cht.origin raw.me.0 stp at.sits.seat (next_is cht b c r raw w s stp at planned) (sound_at cht b c r raw w s at)).1
 
 pub fits_at : (cht : Cht) (b : Sight) (c : Call) (r : Request) (raw : Raw) (w : Along) (s : CallStage) (word : ℕ) → At cht b c r raw w s → FitsIn raw.me.0.seat word → FitsMachine (at_stage b (asked_of r) w s) word
 fits_at cht b c r raw w s word at fits = subst (λ x. FitsIn x word) at.stands.is fits

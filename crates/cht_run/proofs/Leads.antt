@@ -1,8 +1,8 @@
 -- Where the word of a step leads, where that hangs on a test.
-use Rattle.std.proofs.Common.{◌≡◌, ◌≢◌, ◌↔◌, ℕ, ◌+◌, ◌==◌, min, Bool, true, false, cond, Option, Some, None, refl, sym, ap, ◌∙◌}
-use Rattle.std.proofs.lemmas.Bool.{eq-eqb, eqb-true, ne_eqb}
+use Rattle.std.proofs.Common.{◌≡◌, ◌≢◌, ◌↔◌, ◌<◌, ◌≤◌, ℕ, ◌+◌, ◌==◌, min, Bool, true, false, cond, List, length, Option, Some, None, refl, sym, ap, ◌∙◌}
+use Rattle.std.proofs.lemmas.Bool.{eq-eqb, eqb-true, ne_eqb, lt-ltb, le-ltb}
 use Rattle.text_words.specs.Hash.{hash_of}
-use Rattle.text_words.specs.Words.{word_at}
+use Rattle.text_words.specs.Words.{word_at, words_of}
 use Rattle.marked_word.specs.Head.{is_redirected, first_of}
 use Rattle.marked_word.specs.Link.{node_of}
 use Rattle.marked_word.specs.Meta.{meta_word}
@@ -28,7 +28,7 @@ use Rattle.atomic_step.specs.declared.answer.Answer.{Answer}
 use Rattle.call_machine.specs.declared.insert.InsertStage.TheVariants as insert
 use Rattle.call_machine.specs.declared.stage.Goal.{Goal}
 use Rattle.call_machine.specs.Insert as inserts
-use Rattle.call_machine.specs.Insert.{next_slot, not_claimed, not_created, lost_head}
+use Rattle.call_machine.specs.Insert.{next_slot, not_claimed, not_created, lost_head, puts_from}
 use Rattle.cht_run.specs.Inserts.{created}
 use Rattle.cht_run.specs.Walks.{headed, compared, counted, taken}
 
@@ -110,6 +110,13 @@ claim_leads q w slot tried word cursor free is =
 pub taken_leads : (q : Asked) (w : Along) (slot tried word : ℕ) → word ≢ 0 →
     Comes (cond (word == 0) (record w { cursor = next_slot q.shape.slots slot }, stage.Insert (insert.OwnCount slot)) (w, not_claimed q w slot tried)) (w, not_claimed q w slot tried)
 taken_leads q w slot tried word taken = ap (λ b. cond b (record w { cursor = next_slot q.shape.slots slot }, stage.Insert (insert.OwnCount slot)) (w, not_claimed q w slot tried)) (ne_eqb word 0 taken)
+
+-- a further word of the text is stored, or all are
+pub puts_word : (text : List ℕ) (h : Handle) (at : ℕ) → at < words_of (length text) → puts_from text h at ≡ insert.PutText h at
+puts_word text h at less = ap (λ b. cond b (insert.PutText h at) (insert.PutLink h)) (lt-ltb at (words_of (length text)) less)
+
+pub puts_link : (text : List ℕ) (h : Handle) (at : ℕ) → words_of (length text) ≤ at → puts_from text h at ≡ insert.PutLink h
+puts_link text h at all = ap (λ b. cond b (insert.PutText h at) (insert.PutLink h)) (le-ltb at (words_of (length text)) all)
 
 -- the head was the one that was loaded, or another
 pub created_leads : (w : Along) (g : Goal) (h : Handle) (word : ℕ) → word ≡ w.walk.head → Comes (inserts.created w g h word) (created w g h None)

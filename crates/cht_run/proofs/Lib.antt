@@ -11,6 +11,7 @@ pub mod Steps
 pub mod Begins
 pub mod Allows
 pub mod Deeds
+pub mod Layouts
 pub mod Goes
 pub mod Leads
 pub mod Opens

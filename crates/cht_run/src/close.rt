@@ -24,7 +24,7 @@ impl Cht {
     {
         let Seat { mut raw, .. } = seat;
         let note = self.note(&mut raw);
-        let Cht { table, origin } = self;
+        let Cht { table, origin, .. } = self;
         table.close_with(raw).free();
         Front { note, origin }
     }

@@ -14,7 +14,7 @@ use crate::change::sets_out;
 use crate::operations::Began;
 use crate::seat::{Raw, Seat};
 use crate::table::Cht;
-use atomic_step::{Shape, Step};
+use atomic_step::{Place, Shape, Step};
 use call_machine::stage::{Along, Request};
 use intern_log::Handle;
 use std::marker::Brand;
@@ -33,7 +33,7 @@ impl Cht {
         ensures spent { request.now.shape.seats ≤ result → AllDrawn M.sight.origin.table.shape.seats seat.new.me.0.history }
         ensures slots { seat.new.me.1 ≡ seat.old.me.1 }
     {
-        self.begin::<M>(seat, Step::LoadDraws)
+        self.begin_load::<M>(seat, Step::LoadDraws, Place::Draws)
     }
 
     /// Raises it: the number that was drawn, if one was left.

@@ -17,10 +17,10 @@ ghost use Rattle.cht_run.specs.Walks.{headed, IsWalk};
 use crate::operations::Began;
 use crate::seat::Raw;
 use crate::table::Cht;
-use atomic_step::Step;
+use atomic_step::{Place, Step};
 use call_machine::find::Walk;
 use call_machine::stage::{Along, Request};
-use marked_word::{is_redirected, new_level_of};
+use marked_word::{is_redirected, new_level_of, section_word};
 
 /// At the bucket of a text with this hash, in the row of a level.
 #[inline(always)]
@@ -51,7 +51,7 @@ impl Cht {
         requires walk { IsWalk M.sight M.call request.now along.now }
         ensures at { At self.now M.sight M.call request.now seat.new along.now (stage.Find (find.Enter (enter.OpenSection result))) }
     {
-        self.begin::<M>(seat, Step::LoadCounter)
+        self.begin_load::<M>(seat, Step::LoadCounter, Place::Counter)
     }
 
     /// Loads the grace counter again: the call goes on to another try.
@@ -65,7 +65,7 @@ impl Cht {
         requires at { At self.now M.sight M.call request.now seat.old along.now (stage.Find (find.Enter enter.LoadCounter)) }
         ensures at { At self.now M.sight M.call request.now seat.new along.now (stage.Find (find.Enter (enter.OpenSection result))) }
     {
-        self.act(seat, Step::LoadCounter)
+        self.load(seat, Step::LoadCounter, Place::Counter)
     }
 
     /// Opens the seat's section, with the counter that it has loaded.
@@ -80,12 +80,13 @@ impl Cht {
         requires at { At self.now M.sight M.call request.now seat.old along.now (stage.Find (find.Enter (enter.OpenSection counter))) }
         ensures at { At self.now M.sight M.call request.now seat.new along.now (stage.Find find.LoadLevel) }
     {
-        self.act(
+        let number = request.number;
+        let word = section_word(Some(counter));
+        self.store(
             seat,
-            Step::OpenSection {
-                number: request.number,
-                counter,
-            },
+            Step::OpenSection { number, counter },
+            Place::Section(number),
+            word,
         );
     }
 
@@ -101,7 +102,7 @@ impl Cht {
         ensures at { At self.now M.sight M.call request.now seat.new result (stage.Find find.LoadHead) }
         ensures kept { result.kept ≡ along.now.kept }
     {
-        let level = self.act(seat, Step::LoadLevel);
+        let level = self.load(seat, Step::LoadLevel, Place::Level);
         Along {
             walk: turned_to(along.walk, request.sought.hash, level as u8),
             ..*along
@@ -116,7 +117,11 @@ impl Cht {
         ensures kept { result.kept ≡ along.now.kept }
     {
         let Walk { row, bucket, .. } = along.walk;
-        let head = self.act(seat, Step::LoadHead { row, bucket });
+        let head = self.load(
+            seat,
+            Step::LoadHead { row, bucket },
+            Place::Head { row, bucket },
+        );
         Along {
             walk: Walk { head, ..along.walk },
             ..*along
@@ -135,7 +140,7 @@ impl Cht {
         ensures at { At self.now M.sight M.call request.now seat.new result (stage.Find find.LoadNewHead) }
         ensures kept { result.kept ≡ along.now.kept }
     {
-        let level = self.act(seat, Step::LoadNewLevel);
+        let level = self.load(seat, Step::LoadNewLevel, Place::NewLevel);
         Along {
             walk: turned_to(along.walk, request.sought.hash, new_level_of(level)),
             ..*along
@@ -155,7 +160,11 @@ impl Cht {
         ensures kept { result.kept ≡ along.now.kept }
     {
         let Walk { row, bucket, .. } = along.walk;
-        let head = self.act(seat, Step::LoadHead { row, bucket });
+        let head = self.load(
+            seat,
+            Step::LoadHead { row, bucket },
+            Place::Head { row, bucket },
+        );
         Along {
             walk: Walk { head, ..along.walk },
             ..*along

@@ -1,7 +1,8 @@
 //! Making an entry: a free slot is claimed, its words are stored, and it is put at the head of its bucket.
-ghost use Rattle.std.specs.Prelude.{◌≡◌, ◌<◌, ◌+◌, length, None, IfSome};
+ghost use Rattle.std.specs.Prelude.{◌≡◌, ◌<◌, ◌+◌, length, None, Some, IfSome};
 ghost use Rattle.text_words.specs.Words.{words_of};
 ghost use Rattle.atomic_step.specs.Count.{handle_at};
+ghost use Rattle.atomic_step.specs.Step.{plain_head};
 ghost use Rattle.call_machine.specs.declared.insert.InsertStage.TheVariants as insert;
 ghost use Rattle.call_machine.specs.declared.leave.LeaveStage.TheVariants as leave;
 ghost use Rattle.call_machine.specs.declared.leave.Then.TheVariants as next;
@@ -16,12 +17,12 @@ ghost use Rattle.cht_run.specs.Walked.{IsInsertAnswer};
 use crate::operations::Began;
 use crate::seat::Raw;
 use crate::table::Cht;
-use atomic_step::count::handle_at;
-use atomic_step::{Answer, Step};
+use atomic_step::count::{handle_at, holds_word};
+use atomic_step::{Answer, Place, Step};
 use call_machine::find::Walk;
 use call_machine::stage::{Along, Request};
 use intern_log::Handle;
-use marked_word::{first_of, is_locked, is_redirected};
+use marked_word::{Head, first_of, is_locked, is_redirected, link_word};
 use text_words::{word_at, words_of};
 
 /// The slot after a slot, and after the last one the first.
@@ -31,6 +32,19 @@ fn next_slot(slots: u32, slot: u32) -> u32
     ensures value { result ≡ next_slot slots slot }
 {
     if slot + 1 == slots { 0 } else { slot + 1 }
+}
+
+/// The word of a head without a mark, whose first node is in this slot.
+#[inline(always)]
+fn head_of(slot: u32) -> u64
+    ensures value { result ≡ plain_head (Some slot) }
+{
+    let head = Head {
+        node: Some(slot),
+        lock: false,
+        redirect: false,
+    };
+    head.to_word()
 }
 
 /// What the exchange of a head says that found another one.
@@ -63,7 +77,7 @@ impl Cht {
         ensures kept { result.0.kept ≡ along.now.kept }
         ensures walk { result.0.walk ≡ along.now.walk }
     {
-        if self.act(seat, Step::ClaimSlot { slot }) == 0 {
+        if self.swap(seat, Step::ClaimSlot { slot }, Place::Claim(slot), 1) == 0 {
             let cursor = next_slot(request.shape.slots, slot);
             (Along { cursor, ..*along }, true)
         } else {
@@ -84,7 +98,7 @@ impl Cht {
         ensures at { At self.now M.sight M.call request.now seat.new along.now (stage.Insert (insert.PutMeta result)) }
         ensures slot { result.slot ≡ slot }
     {
-        let count = self.act(seat, Step::LoadCount { slot });
+        let count = self.load(seat, Step::LoadCount { slot }, Place::Count(slot));
         handle_at(slot, count)
     }
 
@@ -102,7 +116,12 @@ impl Cht {
     {
         let meta = request.sought.meta;
         let slot = handle.slot;
-        self.act(seat, Step::PutMeta { slot, meta });
+        self.store(
+            seat,
+            Step::PutMeta { slot, meta },
+            Place::Meta(slot),
+            meta.to_word(),
+        );
     }
 
     /// Stores a word of the text.
@@ -121,7 +140,12 @@ impl Cht {
     {
         let word = word_at(request.sought.text, at as usize);
         let slot = handle.slot;
-        self.act(seat, Step::PutText { slot, at, word });
+        self.store(
+            seat,
+            Step::PutText { slot, at, word },
+            Place::Text { slot, at },
+            word,
+        );
     }
 
     /// Stores the link: the entry leads to the first node of its bucket.
@@ -138,7 +162,12 @@ impl Cht {
     {
         let next = first_of(along.walk.head);
         let slot = handle.slot;
-        self.act(seat, Step::PutLink { slot, next });
+        self.store(
+            seat,
+            Step::PutLink { slot, next },
+            Place::Link(slot),
+            link_word(next),
+        );
     }
 
     /// Stores the count: one hold.
@@ -153,7 +182,13 @@ impl Cht {
         requires at { At self.now M.sight M.call request.now seat.old along.now (stage.Insert (insert.PutCount handle)) }
         ensures at { At self.now M.sight M.call request.now seat.new along.now (stage.Insert (insert.Create handle)) }
     {
-        self.act(seat, Step::PutCount { handle, holds: 1 });
+        let word = holds_word(handle, 1);
+        self.store(
+            seat,
+            Step::PutCount { handle, holds: 1 },
+            Place::Count(handle.slot),
+            word,
+        );
     }
 
     /// Puts the entry at the head of its bucket: none where it stands there, and else what another has done.
@@ -175,15 +210,14 @@ impl Cht {
             head,
             ..
         } = along.walk;
-        let word = self.act(
-            seat,
-            Step::CreateEntry {
-                handle,
-                row,
-                bucket,
-                head,
-            },
-        );
+        let place = Place::Head { row, bucket };
+        let step = Step::CreateEntry {
+            handle,
+            row,
+            bucket,
+            head,
+        };
+        let word = self.compare_exchange(seat, step, place, head, head_of(handle.slot));
         if word == head {
             None
         } else {

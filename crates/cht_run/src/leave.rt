@@ -11,10 +11,12 @@ ghost use Rattle.cht_run.specs.Calls.{At};
 use crate::operations::Began;
 use crate::seat::Raw;
 use crate::table::Cht;
-use atomic_step::{Answer, Step};
+use atomic_step::count::holds_word;
+use atomic_step::{Answer, Place, Step};
 use call_machine::find::Walk;
 use call_machine::stage::{Along, Request};
 use intern_log::Handle;
+use marked_word::section_word;
 
 impl Cht {
     /// Closes the seat's section, with the answer of its call.
@@ -30,7 +32,12 @@ impl Cht {
         ensures at { At self.now M.sight M.call request.now seat.new along.now (stage.Answered answer) }
     {
         let number = request.number;
-        self.act(seat, Step::CloseSection { number });
+        self.store(
+            seat,
+            Step::CloseSection { number },
+            Place::Section(number),
+            section_word(None),
+        );
     }
 
     /// Stores a count of 0 into a slot that was claimed in vain.
@@ -46,7 +53,13 @@ impl Cht {
         requires at { At self.now M.sight M.call request.now seat.old along.now (stage.Leave (leave.UndoCount handle (next.Answer answer))) }
         ensures at { At self.now M.sight M.call request.now seat.new along.now (stage.Leave (leave.UndoClaim handle.slot (next.Answer answer))) }
     {
-        self.act(seat, Step::PutCount { handle, holds: 0 });
+        let word = holds_word(handle, 0);
+        self.store(
+            seat,
+            Step::PutCount { handle, holds: 0 },
+            Place::Count(handle.slot),
+            word,
+        );
     }
 
     /// Gives a slot back that was claimed in vain.
@@ -63,7 +76,7 @@ impl Cht {
         ensures at { At self.now M.sight M.call request.now seat.new result (stage.Leave (leave.Close (next.Answer answer))) }
         ensures kept { result.kept ≡ None }
     {
-        self.act(seat, Step::FreeSlot { slot });
+        self.store(seat, Step::FreeSlot { slot }, Place::Claim(slot), 0);
         Along {
             kept: None,
             ..*along
@@ -118,7 +131,12 @@ impl Cht {
         ensures at { At self.now M.sight M.call request.now seat.new result (stage.Find (find.Enter enter.LoadCounter)) }
     {
         let number = request.number;
-        self.act(seat, Step::CloseSection { number });
+        self.store(
+            seat,
+            Step::CloseSection { number },
+            Place::Section(number),
+            section_word(None),
+        );
         Along {
             walk: Walk {
                 passed: 0,

@@ -13,6 +13,7 @@ pub mod hold_laws;
 mod insert;
 pub mod intern;
 pub mod intern_wait;
+mod layout;
 mod leave;
 mod looks;
 pub mod lookup;

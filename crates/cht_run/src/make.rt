@@ -4,6 +4,7 @@ ghost use Rattle.table_shape.specs.Shape.{IsSound, words_of};
 ghost use Rattle.cht_core.specs.State.{IsFirstCounter, IsMakeFault, opening_words};
 ghost use Rattle.cht_run.specs.Ends.{Opened};
 
+use crate::layout::Layout;
 use crate::seat::Seat;
 use crate::shared::Opening;
 use crate::sight::Origin;
@@ -54,6 +55,7 @@ fn opened(alloc: Global, table: Table, size: u64) -> Result<(Cht, Seat), AllocEr
     ensures made { IfOk result (λ made. Opened table made.0 made.1) }
 {
     let words = first_words(alloc, &table, size)?;
+    let shape = table.shape;
     let origin = Origin { table, seed: 0 };
     let opening = Opening { origin, heir: None };
     let (table, raw) = Words::of_words(alloc, words.as_slice(), &opening)?;
@@ -63,7 +65,13 @@ fn opened(alloc: Global, table: Table, size: u64) -> Result<(Cht, Seat), AllocEr
         cursor: 0,
         passed: 0,
     };
-    Ok((Cht { table, origin }, seat))
+    let layout = Layout::of(shape);
+    let cht = Cht {
+        table,
+        origin,
+        layout,
+    };
+    Ok((cht, seat))
 }
 
 /// The words of a table that has just been made.

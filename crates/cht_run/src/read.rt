@@ -27,10 +27,10 @@ use crate::operations::Began;
 use crate::seat::{Raw, Seat};
 use crate::table::Cht;
 use atomic_step::count::is_live;
-use atomic_step::{Answer, Step};
+use atomic_step::{Answer, Place, Step};
 use call_machine::stage::{Along, Request};
 use intern_log::{Handle, Kind};
-use marked_word::length_in;
+use marked_word::{length_in, section_word};
 use std::marker::Brand;
 use text_words::words_of;
 
@@ -59,7 +59,7 @@ impl Cht {
         ensures short { result ≤ 8 * self.now.origin.table.shape.text_words }
     {
         let slot = request.handle.slot;
-        length_in(self.begin::<M>(seat, Step::LoadMeta { slot }))
+        length_in(self.begin_load::<M>(seat, Step::LoadMeta { slot }, Place::Meta(slot)))
     }
 
     /// Loads the counter, before a section is opened.
@@ -74,7 +74,7 @@ impl Cht {
         ensures at { At self.now M.sight M.call request.now seat.new along.now (stage.Read (read.Enter (enter.OpenSection result))) }
         ensures own { done_by M.sight.number seat.new.me.0 ≡ done_by M.sight.number M.sight }
     {
-        self.begin::<M>(seat, Step::LoadCounter)
+        self.begin_load::<M>(seat, Step::LoadCounter, Place::Counter)
     }
 
     /// Opens the section in which the text is read.
@@ -91,7 +91,13 @@ impl Cht {
         ensures own { done_by M.sight.number seat.new.me.0 ≡ done_by M.sight.number seat.old.me.0 ++ what.Open counter ∷ [] }
     {
         let number = request.number;
-        self.act(seat, Step::OpenSection { number, counter });
+        let word = section_word(Some(counter));
+        self.store(
+            seat,
+            Step::OpenSection { number, counter },
+            Place::Section(number),
+            word,
+        );
     }
 
     /// Whether the entry of the handle is live.
@@ -102,7 +108,7 @@ impl Cht {
         ensures own { done_by M.sight.number seat.new.me.0 ≡ done_by M.sight.number seat.old.me.0 }
     {
         let slot = request.handle.slot;
-        let count = self.act(seat, Step::LoadCount { slot });
+        let count = self.load(seat, Step::LoadCount { slot }, Place::Count(slot));
         is_live(request.handle, count)
     }
 
@@ -116,7 +122,7 @@ impl Cht {
         ensures short { result ≤ 8 * self.now.origin.table.shape.text_words }
     {
         let slot = request.handle.slot;
-        length_in(self.act(seat, Step::LoadMeta { slot }))
+        length_in(self.load(seat, Step::LoadMeta { slot }, Place::Meta(slot)))
     }
 
     /// Loads a word of the text.
@@ -136,7 +142,7 @@ impl Cht {
         ensures longer { IsLonger (log_of seat.old.me.0.history) (log_of seat.new.me.0.history) }
     {
         let slot = request.handle.slot;
-        self.act(seat, Step::LoadText { slot, at })
+        self.load(seat, Step::LoadText { slot, at }, Place::Text { slot, at })
     }
 
     /// Closes the section in which the text was read.
@@ -154,7 +160,12 @@ impl Cht {
         ensures longer { IsLonger (log_of seat.old.me.0.history) (log_of seat.new.me.0.history) }
     {
         let number = request.number;
-        self.act(seat, Step::CloseSection { number });
+        self.store(
+            seat,
+            Step::CloseSection { number },
+            Place::Section(number),
+            section_word(None),
+        );
     }
 
     /// Loads the words of the text, and stores them.

@@ -51,7 +51,11 @@ impl Cht {
         } = seat;
         let note = self.note(&mut raw);
         let heir = self.leave(&mut raw);
-        let Cht { table, origin } = self;
+        let Cht {
+            table,
+            origin,
+            layout,
+        } = self;
         let next = Origin {
             table: origin.table,
             seed: origin.seed + 1,
@@ -65,6 +69,7 @@ impl Cht {
                 Cht {
                     table,
                     origin: next,
+                    layout,
                 },
                 Seat {
                     raw,

@@ -1,5 +1,7 @@
-use Rattle.std.proofs.Common.{◌≡◌, ⊎_elim, ℕ, ◌+◌, ◌%◌, ◌^◌, ◌==◌, true, Some, sym, ap, ◌∙◌, refl}
+use Rattle.std.proofs.Common.{◌≡◌, subst, ⊎_elim, ℕ, ◌+◌, ◌%◌, ◌^◌, ◌==◌, true, Some, sym, ap, ◌∙◌, refl}
 use prog.Atomic.{either}
+use Rattle.table_shape.specs.declared.shape.Shape.{Shape}
+use Rattle.table_shape.specs.Place.{index_of, IsInside}
 use Rattle.atomic_step.specs.declared.access.Deed.{Deed}
 use Rattle.atomic_step.specs.Access.{word_after}
 use Rattle.cht_run.proofs.Deeds.{step_is_sound, further, exchanged, goes_on_stays, goes_on_fits}
@@ -8,15 +10,18 @@ use Rattle.cht_run.proofs.table.Cht.act.Goals as goal
 pub access-access-requires : goal.access-access-requires
 access-access-requires c = record { value = (step_is_sound c.args.self.now.origin c.args.seat.now.me.0 c.args.step c.requires.sits.seat c.requires.next c.requires.sound).1 }
 
-pub index-at-requires-clause-inside : goal.index-at-requires-clause-inside
-index-at-requires-clause-inside c = rw c.access-access.ensures.value (step_is_sound c.args.self.now.origin c.args.seat.now.me.0 c.args.step c.requires.sits.seat c.requires.next c.requires.sound).0
+pub index-at-requires : goal.index-at-requires
+index-at-requires c = record {
+  inside = subst (λ (shape : Shape). IsInside shape c.access-access.result.place) (sym c.args.self.now.laid)
+      (rw c.access-access.ensures.value (step_is_sound c.args.self.now.origin c.args.seat.now.me.0 c.args.step c.requires.sits.seat c.requires.next c.requires.sound).0);
+}
 
 pub load-requires : goal.load-requires
 load-requires c =
     let s = c.args.self.now in
     let v = c.args.seat.now.me in
     let asks = further s.table.shared.key.origin s.origin s.table.shared.table_id.words s.table.shared.table_id.slots c.args.seat.now.id v c.args.step c.access-access.result c.index-at.result s.of s.wide
-    c.requires.sits.origin (step_is_sound s.origin v.0 c.args.step c.requires.sits.seat c.requires.next c.requires.sound) c.access-access.ensures.value c.index-at.ensures.value (λ n. n)
+    c.requires.sits.origin (step_is_sound s.origin v.0 c.args.step c.requires.sits.seat c.requires.next c.requires.sound) c.access-access.ensures.value (c.index-at.ensures.value ∙ ap (λ (shape : Shape). index_of shape c.access-access.result.place) s.laid) (λ n. n)
     (λ n. sym (ap (λ (d : Deed). word_after d n) c.in-Load.is)) c.requires.sits.seat c.requires.next in
     (c.requires.sits.table, asks.0, asks.1)
 
@@ -25,7 +30,7 @@ fetch_add-requires c =
     let s = c.args.self.now in
     let v = c.args.seat.now.me in
     let asks = further s.table.shared.key.origin s.origin s.table.shared.table_id.words s.table.shared.table_id.slots c.args.seat.now.id v c.args.step c.access-access.result c.index-at.result s.of s.wide
-    c.requires.sits.origin (step_is_sound s.origin v.0 c.args.step c.requires.sits.seat c.requires.next c.requires.sound) c.access-access.ensures.value c.index-at.ensures.value (λ n. (n + c.in-Add.value) % 2 ^ 64)
+    c.requires.sits.origin (step_is_sound s.origin v.0 c.args.step c.requires.sits.seat c.requires.next c.requires.sound) c.access-access.ensures.value (c.index-at.ensures.value ∙ ap (λ (shape : Shape). index_of shape c.access-access.result.place) s.laid) (λ n. (n + c.in-Add.value) % 2 ^ 64)
     (λ n. sym (ap (λ (d : Deed). word_after d n) c.in-Add.is)) c.requires.sits.seat c.requires.next in
     (c.requires.sits.table, asks.0, asks.1)
 
@@ -34,7 +39,7 @@ compare_exchange-requires c =
     let s = c.args.self.now in
     let v = c.args.seat.now.me in
     let asks = further s.table.shared.key.origin s.origin s.table.shared.table_id.words s.table.shared.table_id.slots c.args.seat.now.id v c.args.step c.access-access.result c.index-at.result s.of s.wide
-    c.requires.sits.origin (step_is_sound s.origin v.0 c.args.step c.requires.sits.seat c.requires.next c.requires.sound) c.access-access.ensures.value c.index-at.ensures.value (λ n. either (n == c.in-Exchange.old) c.in-Exchange.new n)
+    c.requires.sits.origin (step_is_sound s.origin v.0 c.args.step c.requires.sits.seat c.requires.next c.requires.sound) c.access-access.ensures.value (c.index-at.ensures.value ∙ ap (λ (shape : Shape). index_of shape c.access-access.result.place) s.laid) (λ n. either (n == c.in-Exchange.old) c.in-Exchange.new n)
     (λ n. exchanged (n == c.in-Exchange.old) c.in-Exchange.new n ∙ sym (ap (λ (d : Deed). word_after d n) c.in-Exchange.is)) c.requires.sits.seat c.requires.next in
     (c.requires.sits.table, asks.0, asks.1)
 
@@ -43,7 +48,7 @@ swap-requires c =
     let s = c.args.self.now in
     let v = c.args.seat.now.me in
     let asks = further s.table.shared.key.origin s.origin s.table.shared.table_id.words s.table.shared.table_id.slots c.args.seat.now.id v c.args.step c.access-access.result c.index-at.result s.of s.wide
-    c.requires.sits.origin (step_is_sound s.origin v.0 c.args.step c.requires.sits.seat c.requires.next c.requires.sound) c.access-access.ensures.value c.index-at.ensures.value (λ n. c.in-Store.value)
+    c.requires.sits.origin (step_is_sound s.origin v.0 c.args.step c.requires.sits.seat c.requires.next c.requires.sound) c.access-access.ensures.value (c.index-at.ensures.value ∙ ap (λ (shape : Shape). index_of shape c.access-access.result.place) s.laid) (λ n. c.in-Store.value)
     (λ n. ⊎_elim (λ is. sym (ap (λ (d : Deed). word_after d n) is)) (λ is. sym (ap (λ (d : Deed). word_after d n) is)) c.in-Store.is) c.requires.sits.seat c.requires.next in
     (c.requires.sits.table, asks.0, asks.1)
 

@@ -8,11 +8,11 @@ use Rattle.cht_run.proofs.table.Cht.count_drawn.Goals as goal
 
 pub returns : goal.returns
 returns g c =
-    let at = goes_first c.args.self.now g.M.Began.sight g.M.Began.call c.args.request.now c.args.seat.now c.begin.new.seat c.args.along.now (stage.Draw draw.Load) step.LoadDraws c.begin.result
-    c.requires.starts c.begin.ensures.told _ _ c.args.self.now.sound refl c.begin.ensures.sits refl in
+    let at = goes_first c.args.self.now g.M.Began.sight g.M.Began.call c.args.request.now c.args.seat.now c.begin_load.new.seat c.args.along.now (stage.Draw draw.Load) step.LoadDraws c.begin_load.result
+    c.requires.starts c.begin_load.ensures.told _ _ c.args.self.now.sound refl c.begin_load.ensures.sits refl in
     record {
       at = at;
-      none = load_made c.args.self.now g.M.Began.sight g.M.Began.call c.args.request.now c.args.seat.now c.begin.new.seat c.args.along.now c.begin.result c.requires.starts c.begin.ensures.told;
-      spent = load_spent c.args.self.now g.M.Began.sight g.M.Began.call c.args.request.now c.args.seat.now c.begin.new.seat c.args.along.now c.begin.result c.requires.starts c.begin.ensures.told at;
-      slots = c.begin.ensures.sits.bare ∙ sym c.requires.starts.sits.bare;
+      none = load_made c.args.self.now g.M.Began.sight g.M.Began.call c.args.request.now c.args.seat.now c.begin_load.new.seat c.args.along.now c.begin_load.result c.requires.starts c.begin_load.ensures.told;
+      spent = load_spent c.args.self.now g.M.Began.sight g.M.Began.call c.args.request.now c.args.seat.now c.begin_load.new.seat c.args.along.now c.begin_load.result c.requires.starts c.begin_load.ensures.told at;
+      slots = c.begin_load.ensures.sits.bare ∙ sym c.requires.starts.sits.bare;
     }

@@ -7,6 +7,6 @@ use Rattle.cht_run.proofs.table.Cht.enter_again.Goals as goal
 
 pub returns : goal.returns
 returns g c = record {
-  at = goes c.args.self.now g.M.Began.sight g.M.Began.call c.args.request.now _ _ _ _ (stage.Find (find.Enter enter.LoadCounter)) (stage.Find (find.Enter (enter.OpenSection c.act.result))) _ c.act.result c.requires.at refl refl
-      c.act.ensures.sits c.act.ensures.told refl;
+  at = goes c.args.self.now g.M.Began.sight g.M.Began.call c.args.request.now _ _ _ _ (stage.Find (find.Enter enter.LoadCounter)) (stage.Find (find.Enter (enter.OpenSection c.load.result))) _ c.load.result c.requires.at refl refl
+      c.load.ensures.sits c.load.ensures.told refl;
 }

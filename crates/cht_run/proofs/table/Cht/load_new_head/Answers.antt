@@ -8,5 +8,5 @@ use Rattle.cht_run.proofs.table.Cht.load_new_head.Goals as goal
 
 pub returns-clause-at : goal.returns-clause-at
 returns-clause-at g c =
-    goes c.args.self.now g.M.Began.sight g.M.Began.call c.args.request.now _ _ _ _ (stage.Find find.LoadNewHead) _ _ c.act-head.result c.requires.at refl refl c.act-head.ensures.sits c.act-head.ensures.told
-    (new_head_leads (asked_of c.args.request.now) c.args.along.now c.act-head.result)
+    goes c.args.self.now g.M.Began.sight g.M.Began.call c.args.request.now _ _ _ _ (stage.Find find.LoadNewHead) _ _ c.load-head.result c.requires.at refl refl c.load-head.ensures.sits c.load-head.ensures.told
+    (new_head_leads (asked_of c.args.request.now) c.args.along.now c.load-head.result)

@@ -8,5 +8,5 @@ use Rattle.cht_run.proofs.table.Cht.load_new_level.Goals as goal
 
 pub returns-clause-at : goal.returns-clause-at
 returns-clause-at g c =
-    goes c.args.self.now g.M.Began.sight g.M.Began.call c.args.request.now _ _ _ _ (stage.Find find.LoadNewLevel) (stage.Find find.LoadNewHead) _ c.act-level.result c.requires.at refl refl c.act-level.ensures.sits c.act-level.ensures.told
-    (turned_leads c.args.request.now c.args.along.now (new_level_of c.act-level.result) c.turned_to.result find.LoadNewHead c.requires.at.request (rw (← c.new_level_of.ensures.value) c.turned_to.ensures.value))
+    goes c.args.self.now g.M.Began.sight g.M.Began.call c.args.request.now _ _ _ _ (stage.Find find.LoadNewLevel) (stage.Find find.LoadNewHead) _ c.load-level.result c.requires.at refl refl c.load-level.ensures.sits c.load-level.ensures.told
+    (turned_leads c.args.request.now c.args.along.now (new_level_of c.load-level.result) c.turned_to.result find.LoadNewHead c.requires.at.request (rw (← c.new_level_of.ensures.value) c.turned_to.ensures.value))

@@ -6,4 +6,4 @@ use Rattle.cht_run.proofs.Goes.{goes}
 use Rattle.cht_run.proofs.table.Cht.open_section.Goals as goal
 
 pub returns : goal.returns
-returns g c = record { at = goes c.args.self.now g.M.Began.sight g.M.Began.call c.args.request.now _ _ _ _ (stage.Find (find.Enter (enter.OpenSection c.args.counter))) (stage.Find find.LoadLevel) _ c.act.result c.requires.at refl refl c.act.ensures.sits c.act.ensures.told refl }
+returns g c = record { at = goes c.args.self.now g.M.Began.sight g.M.Began.call c.args.request.now _ _ _ _ (stage.Find (find.Enter (enter.OpenSection c.args.counter))) (stage.Find find.LoadLevel) _ c.store.result c.requires.at refl refl c.store.ensures.sits c.store.ensures.told refl }

@@ -7,5 +7,5 @@ use Rattle.cht_run.proofs.table.Cht.own_count.Goals as goal
 
 pub returns-clause-at : goal.returns-clause-at
 returns-clause-at g c =
-    goes c.args.self.now g.M.Began.sight g.M.Began.call c.args.request.now _ _ _ _ (stage.Insert (insert.OwnCount c.args.slot)) _ _ c.act-count.result c.requires.at refl refl c.act-count.ensures.sits c.act-count.ensures.told
+    goes c.args.self.now g.M.Began.sight g.M.Began.call c.args.request.now _ _ _ _ (stage.Insert (insert.OwnCount c.args.slot)) _ _ c.load-count.result c.requires.at refl refl c.load-count.ensures.sits c.load-count.ensures.told
     (ap (λ h. (c.args.along.now, stage.Insert (insert.PutMeta h))) (sym c.handle_at.ensures.value))

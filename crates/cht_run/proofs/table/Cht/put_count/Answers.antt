@@ -7,6 +7,6 @@ use Rattle.cht_run.proofs.table.Cht.put_count.Goals as goal
 
 pub returns : goal.returns
 returns g c = record {
-  at = goes c.args.self.now g.M.Began.sight g.M.Began.call c.args.request.now _ _ _ _ (stage.Insert (insert.PutCount c.args.handle)) _ _ c.act.result c.requires.at refl refl c.act.ensures.sits c.act.ensures.told
+  at = goes c.args.self.now g.M.Began.sight g.M.Began.call c.args.request.now _ _ _ _ (stage.Insert (insert.PutCount c.args.handle)) _ _ c.store.result c.requires.at refl refl c.store.ensures.sits c.store.ensures.told
       (refl);
 }

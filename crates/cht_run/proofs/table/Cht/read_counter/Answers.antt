@@ -10,8 +10,8 @@ use Rattle.cht_run.proofs.table.Cht.read_counter.Goals as goal
 
 pub returns : goal.returns
 returns g c = record {
-  at = goes_first c.args.self.now g.M.Began.sight g.M.Began.call c.args.request.now c.args.seat.now c.begin.new.seat c.args.along.now (stage.Read (read.Enter enter.LoadCounter)) step.LoadCounter c.begin.result c.requires.starts c.begin.ensures.told _ _
-      c.args.self.now.sound refl c.begin.ensures.sits refl;
-  own = first_done c.args.self.now g.M.Began.sight g.M.Began.call c.args.request.now c.args.seat.now c.begin.new.seat c.args.along.now (stage.Read (read.Enter enter.LoadCounter)) step.LoadCounter c.begin.result c.requires.starts c.begin.ensures.told
+  at = goes_first c.args.self.now g.M.Began.sight g.M.Began.call c.args.request.now c.args.seat.now c.begin_load.new.seat c.args.along.now (stage.Read (read.Enter enter.LoadCounter)) step.LoadCounter c.begin_load.result c.requires.starts c.begin_load.ensures.told _ _
+      c.args.self.now.sound refl c.begin_load.ensures.sits refl;
+  own = first_done c.args.self.now g.M.Began.sight g.M.Began.call c.args.request.now c.args.seat.now c.begin_load.new.seat c.args.along.now (stage.Read (read.Enter enter.LoadCounter)) step.LoadCounter c.begin_load.result c.requires.starts c.begin_load.ensures.told
       ∙ append-nil (done_by g.M.Began.sight.number g.M.Began.sight);
 }

@@ -8,11 +8,11 @@ use Rattle.cht_run.proofs.table.Cht.read_length.Goals as goal
 
 pub returns : goal.returns
 returns g c =
-    let says = further_says c.args.self.now g.M.Began.sight g.M.Began.call c.args.request.now c.args.seat.now c.act.new.seat c.args.along.now (stage.Read read.Meta) _ c.act.result c.requires.at refl c.act.ensures.told refl in
+    let says = further_says c.args.self.now g.M.Began.sight g.M.Began.call c.args.request.now c.args.seat.now c.load.new.seat c.args.along.now (stage.Read read.Meta) _ c.load.result c.requires.at refl c.load.ensures.told refl in
     record {
-      at = rw c.length_in.ensures.value (goes c.args.self.now g.M.Began.sight g.M.Began.call c.args.request.now _ _ _ _ (stage.Read read.Meta) _ _ c.act.result c.requires.at refl refl c.act.ensures.sits c.act.ensures.told refl);
-      own = further_done c.args.self.now g.M.Began.sight g.M.Began.call c.args.request.now c.args.seat.now c.act.new.seat c.args.along.now (stage.Read read.Meta) _ c.act.result c.requires.at refl c.act.ensures.told
+      at = rw c.length_in.ensures.value (goes c.args.self.now g.M.Began.sight g.M.Began.call c.args.request.now _ _ _ _ (stage.Read read.Meta) _ _ c.load.result c.requires.at refl refl c.load.ensures.sits c.load.ensures.told refl);
+      own = further_done c.args.self.now g.M.Began.sight g.M.Began.call c.args.request.now c.args.seat.now c.load.new.seat c.args.along.now (stage.Read read.Meta) _ c.load.result c.requires.at refl c.load.ensures.told
           ∙ append-nil (done_by g.M.Began.sight.number c.args.seat.now.me.0);
       long = (says.0, says.1, c.length_in.ensures.value ∙ says.2);
-      short = rw c.length_in.ensures.value (further_short c.args.self.now g.M.Began.sight g.M.Began.call c.args.request.now c.args.seat.now c.act.new.seat c.args.along.now (stage.Read read.Meta) _ c.act.result c.requires.at refl c.act.ensures.told refl);
+      short = rw c.length_in.ensures.value (further_short c.args.self.now g.M.Began.sight g.M.Began.call c.args.request.now c.args.seat.now c.load.new.seat c.args.along.now (stage.Read read.Meta) _ c.load.result c.requires.at refl c.load.ensures.told refl);
     }

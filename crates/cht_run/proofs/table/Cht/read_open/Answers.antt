@@ -8,6 +8,6 @@ use Rattle.cht_run.proofs.table.Cht.read_open.Goals as goal
 
 pub returns : goal.returns
 returns g c = record {
-  at = goes c.args.self.now g.M.Began.sight g.M.Began.call c.args.request.now _ _ _ _ (stage.Read (read.Enter (enter.OpenSection c.args.counter))) (stage.Read read.Count) _ c.act.result c.requires.at refl refl c.act.ensures.sits c.act.ensures.told refl;
-  own = further_done c.args.self.now g.M.Began.sight g.M.Began.call c.args.request.now c.args.seat.now c.act.new.seat c.args.along.now (stage.Read (read.Enter (enter.OpenSection c.args.counter))) _ c.act.result c.requires.at refl c.act.ensures.told;
+  at = goes c.args.self.now g.M.Began.sight g.M.Began.call c.args.request.now _ _ _ _ (stage.Read (read.Enter (enter.OpenSection c.args.counter))) (stage.Read read.Count) _ c.store.result c.requires.at refl refl c.store.ensures.sits c.store.ensures.told refl;
+  own = further_done c.args.self.now g.M.Began.sight g.M.Began.call c.args.request.now c.args.seat.now c.store.new.seat c.args.along.now (stage.Read (read.Enter (enter.OpenSection c.args.counter))) _ c.store.result c.requires.at refl c.store.ensures.told;
 }

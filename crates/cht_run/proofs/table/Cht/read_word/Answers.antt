@@ -8,9 +8,9 @@ use Rattle.cht_run.proofs.table.Cht.read_word.Goals as goal
 
 pub returns : goal.returns
 returns g c = record {
-  at = goes c.args.self.now g.M.Began.sight g.M.Began.call c.args.request.now _ _ _ _ (stage.Read (read.Text c.args.at c.args.length)) _ _ c.act.result c.requires.at refl refl c.act.ensures.sits c.act.ensures.told refl;
-  own = further_done c.args.self.now g.M.Began.sight g.M.Began.call c.args.request.now c.args.seat.now c.act.new.seat c.args.along.now (stage.Read (read.Text c.args.at c.args.length)) _ c.act.result c.requires.at refl c.act.ensures.told
+  at = goes c.args.self.now g.M.Began.sight g.M.Began.call c.args.request.now _ _ _ _ (stage.Read (read.Text c.args.at c.args.length)) _ _ c.load.result c.requires.at refl refl c.load.ensures.sits c.load.ensures.told refl;
+  own = further_done c.args.self.now g.M.Began.sight g.M.Began.call c.args.request.now c.args.seat.now c.load.new.seat c.args.along.now (stage.Read (read.Text c.args.at c.args.length)) _ c.load.result c.requires.at refl c.load.ensures.told
       ∙ append-nil (done_by g.M.Began.sight.number c.args.seat.now.me.0);
-  says = further_says c.args.self.now g.M.Began.sight g.M.Began.call c.args.request.now c.args.seat.now c.act.new.seat c.args.along.now (stage.Read (read.Text c.args.at c.args.length)) _ c.act.result c.requires.at refl c.act.ensures.told refl;
-  longer = further_longer c.args.self.now g.M.Began.sight g.M.Began.call c.args.request.now c.args.seat.now c.act.new.seat c.args.along.now (stage.Read (read.Text c.args.at c.args.length)) _ c.act.result c.requires.at refl c.act.ensures.told;
+  says = further_says c.args.self.now g.M.Began.sight g.M.Began.call c.args.request.now c.args.seat.now c.load.new.seat c.args.along.now (stage.Read (read.Text c.args.at c.args.length)) _ c.load.result c.requires.at refl c.load.ensures.told refl;
+  longer = further_longer c.args.self.now g.M.Began.sight g.M.Began.call c.args.request.now c.args.seat.now c.load.new.seat c.args.along.now (stage.Read (read.Text c.args.at c.args.length)) _ c.load.result c.requires.at refl c.load.ensures.told;
 }

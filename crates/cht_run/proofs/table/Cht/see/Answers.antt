@@ -8,7 +8,7 @@ use Rattle.cht_run.proofs.table.Cht.see.Goals as goal
 
 pub returns : goal.returns
 returns g c = record {
-  at = goes_first c.args.self.now g.M.Began.sight g.M.Began.call c.args.request.now c.args.seat.now c.begin.new.seat c.args.along.now (stage.Handle (handle.Count c.args.change)) (step.SeeHandle c.args.change c.args.request.now.handle) c.begin.result
-      c.requires.starts c.begin.ensures.told _ _ c.args.self.now.sound refl c.begin.ensures.sits refl;
-  did = has_seen c.args.self.now g.M.Began.sight g.M.Began.call c.args.request.now c.args.seat.now c.begin.new.seat c.args.along.now c.args.change c.begin.result c.requires.starts c.begin.ensures.told;
+  at = goes_first c.args.self.now g.M.Began.sight g.M.Began.call c.args.request.now c.args.seat.now c.begin_load.new.seat c.args.along.now (stage.Handle (handle.Count c.args.change)) (step.SeeHandle c.args.change c.args.request.now.handle) c.begin_load.result
+      c.requires.starts c.begin_load.ensures.told _ _ c.args.self.now.sound refl c.begin_load.ensures.sits refl;
+  did = has_seen c.args.self.now g.M.Began.sight g.M.Began.call c.args.request.now c.args.seat.now c.begin_load.new.seat c.args.along.now c.args.change c.begin_load.result c.requires.starts c.begin_load.ensures.told;
 }

@@ -8,6 +8,6 @@ use Rattle.cht_run.proofs.table.Cht.take.Goals as goal
 
 pub returns : goal.returns
 returns g c = record {
-  at = goes c.args.self.now g.M.Began.sight g.M.Began.call c.args.request.now _ _ _ _ (stage.Node (node.Take c.args.slot c.args.count)) _ _ c.act.result c.requires.at refl refl c.act.ensures.sits c.act.ensures.told
-      (take_leads (asked_of c.args.request.now) c.args.along.now c.args.slot c.args.count c.act.result);
+  at = goes c.args.self.now g.M.Began.sight g.M.Began.call c.args.request.now _ _ _ _ (stage.Node (node.Take c.args.slot c.args.count)) _ _ c.compare_exchange.result c.requires.at refl refl c.compare_exchange.ensures.sits c.compare_exchange.ensures.told
+      (take_leads (asked_of c.args.request.now) c.args.along.now c.args.slot c.args.count c.compare_exchange.result);
 }

@@ -6,4 +6,4 @@ use Rattle.cht_run.proofs.Goes.{goes}
 use Rattle.cht_run.proofs.table.Cht.undo_claim.Goals as goal
 
 pub returns-clause-at : goal.returns-clause-at
-returns-clause-at g c = goes c.args.self.now g.M.Began.sight g.M.Began.call c.args.request.now _ _ _ _ (stage.Leave (leave.UndoClaim c.args.slot (next.Answer c.args.answer))) _ _ c.act.result c.requires.at refl refl c.act.ensures.sits c.act.ensures.told refl
+returns-clause-at g c = goes c.args.self.now g.M.Began.sight g.M.Began.call c.args.request.now _ _ _ _ (stage.Leave (leave.UndoClaim c.args.slot (next.Answer c.args.answer))) _ _ c.store.result c.requires.at refl refl c.store.ensures.sits c.store.ensures.told refl

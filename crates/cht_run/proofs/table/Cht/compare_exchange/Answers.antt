@@ -1,0 +1,32 @@
+use Rattle.std.proofs.Common.{◌≡◌, ℕ, ◌==◌, sym, ap, subst, refl, ◌∙◌}
+use prog.Atomic.{either}
+use Rattle.table_shape.specs.declared.shape.Shape.{Shape}
+use Rattle.table_shape.specs.Place.{index_of, IsInside}
+use Rattle.atomic_step.specs.declared.access.Deed.{Deed}
+use Rattle.atomic_step.specs.Access.{word_after}
+use Rattle.atomic_step.specs.Step.{access_of}
+use Rattle.cht_run.proofs.Deeds.{step_is_sound, further, exchanged, goes_on_stays, goes_on_fits}
+use Rattle.cht_run.proofs.table.Cht.compare_exchange.Goals as goal
+
+pub index-at-requires : goal.index-at-requires
+index-at-requires c =
+    let s = c.args.self.now in
+    record { inside = subst (λ (shape : Shape). IsInside shape c.args.place) (sym s.laid) (subst (IsInside s.origin.table.shape) c.requires.exchanges.0 (step_is_sound s.origin c.args.seat.now.me.0 c.args.step c.requires.sits.seat c.requires.next c.requires.sound).0) }
+
+pub compare_exchange-requires : goal.compare_exchange-requires
+compare_exchange-requires c =
+    let s = c.args.self.now in
+    let v = c.args.seat.now.me in
+    let index_is = c.index-at.ensures.value ∙ ap (λ (shape : Shape). index_of shape c.args.place) s.laid ∙ ap (index_of s.origin.table.shape) (sym c.requires.exchanges.0) in
+    let asks = further s.table.shared.key.origin s.origin s.table.shared.table_id.words s.table.shared.table_id.slots c.args.seat.now.id v c.args.step (access_of c.args.step) c.index-at.result s.of s.wide
+    c.requires.sits.origin (step_is_sound s.origin c.args.seat.now.me.0 c.args.step c.requires.sits.seat c.requires.next c.requires.sound) refl index_is (λ n. either (n == c.args.old) c.args.new n)
+    (λ n. exchanged (n == c.args.old) c.args.new n ∙ sym (ap (λ (d : Deed). word_after d n) c.requires.exchanges.1)) c.requires.sits.seat c.requires.next in
+    (c.requires.sits.table, asks.0, asks.1)
+
+pub returns-clause-sits : goal.returns-clause-sits
+returns-clause-sits c =
+    let stays = goes_on_stays c.args.seat.now.me.0 c.compare_exchange.new.seat.me.0 c.args.step c.compare_exchange.result c.requires.sits.seat c.requires.next c.compare_exchange.ensures.2.0 in
+    record { table = c.compare_exchange.ensures.0 ∙ c.requires.sits.table; origin = stays.0 ∙ c.requires.sits.origin; seat = stays.1 ∙ c.requires.sits.seat; bare = c.compare_exchange.ensures.2.1 ∙ c.requires.sits.bare }
+
+pub returns-clause-fits : goal.returns-clause-fits
+returns-clause-fits c = goes_on_fits c.args.seat.now.me.0 c.compare_exchange.new.seat.me.0 c.args.step c.compare_exchange.result c.requires.sits.seat c.requires.next c.compare_exchange.ensures.2.0

@@ -1,0 +1,31 @@
+use Rattle.std.proofs.Common.{◌≡◌, ℕ, sym, ap, subst, refl, ◌∙◌}
+use Rattle.table_shape.specs.declared.shape.Shape.{Shape}
+use Rattle.table_shape.specs.Place.{index_of, IsInside}
+use Rattle.atomic_step.specs.declared.access.Deed.{Deed}
+use Rattle.atomic_step.specs.Access.{word_after}
+use Rattle.atomic_step.specs.Step.{access_of}
+use Rattle.cht_run.proofs.Deeds.{step_is_sound, further, goes_on_stays, goes_on_fits}
+use Rattle.cht_run.proofs.table.Cht.load.Goals as goal
+
+pub index-at-requires : goal.index-at-requires
+index-at-requires c =
+    let s = c.args.self.now in
+    record { inside = subst (λ (shape : Shape). IsInside shape c.args.place) (sym s.laid) (subst (IsInside s.origin.table.shape) c.requires.loads.0 (step_is_sound s.origin c.args.seat.now.me.0 c.args.step c.requires.sits.seat c.requires.next c.requires.sound).0) }
+
+pub load-requires : goal.load-requires
+load-requires c =
+    let s = c.args.self.now in
+    let v = c.args.seat.now.me in
+    let index_is = c.index-at.ensures.value ∙ ap (λ (shape : Shape). index_of shape c.args.place) s.laid ∙ ap (index_of s.origin.table.shape) (sym c.requires.loads.0) in
+    let asks = further s.table.shared.key.origin s.origin s.table.shared.table_id.words s.table.shared.table_id.slots c.args.seat.now.id v c.args.step (access_of c.args.step) c.index-at.result s.of s.wide
+    c.requires.sits.origin (step_is_sound s.origin c.args.seat.now.me.0 c.args.step c.requires.sits.seat c.requires.next c.requires.sound) refl index_is (λ n. n)
+    (λ n. sym (ap (λ (d : Deed). word_after d n) c.requires.loads.1)) c.requires.sits.seat c.requires.next in
+    (c.requires.sits.table, asks.0, asks.1)
+
+pub returns-clause-sits : goal.returns-clause-sits
+returns-clause-sits c =
+    let stays = goes_on_stays c.args.seat.now.me.0 c.load.new.seat.me.0 c.args.step c.load.result c.requires.sits.seat c.requires.next c.load.ensures.2.0 in
+    record { table = c.load.ensures.0 ∙ c.requires.sits.table; origin = stays.0 ∙ c.requires.sits.origin; seat = stays.1 ∙ c.requires.sits.seat; bare = c.load.ensures.2.1 ∙ c.requires.sits.bare }
+
+pub returns-clause-fits : goal.returns-clause-fits
+returns-clause-fits c = goes_on_fits c.args.seat.now.me.0 c.load.new.seat.me.0 c.args.step c.load.result c.requires.sits.seat c.requires.next c.load.ensures.2.0
