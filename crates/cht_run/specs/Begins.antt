@@ -1,11 +1,8 @@
 -- A seat between its calls, and the call that it begins.
 use Rattle.std.specs.Prelude.{◌≡◌, ◌≤◌, ℕ, Bool, true, false, List, [], ◌++◌, is_some, IfSome, Option, Some, None}
-use Rattle.table_shape.specs.declared.place.Place.{Place}
-use Rattle.atomic_step.specs.declared.access.Deed.{Deed}
 use Rattle.atomic_step.specs.declared.plan.Plan.{Plan}
 use Rattle.atomic_step.specs.declared.plan.Plan.TheVariants as plan
 use Rattle.atomic_step.specs.declared.step.Step.{Step}
-use Rattle.atomic_step.specs.Step.{access_of}
 use Rattle.call_machine.specs.declared.call.Call.{Call}
 use Rattle.call_machine.specs.declared.machine.Machine.{Machine}
 use Rattle.call_machine.specs.declared.machine.Own.{Own}
@@ -85,10 +82,6 @@ step_by (plan.Answered a) = None
 abbrev pub next_in : Seat → Option Step
 next_in (doing.Idle own) = None
 next_in (doing.Running m) = step_by (plan_of m)
-
--- what a step does to which word
-abbrev pub Does : Step → Place → Deed → Type 0
-Does s place deed = ((access_of s).place ≡ place) × ((access_of s).deed ≡ deed)
 
 -- the call of a seat is sound, and it is of the seat and its table
 pub record IsSoundOf (o : Origin) (number : ℕ) (m : Machine) : Type 0 where

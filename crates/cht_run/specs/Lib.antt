@@ -13,6 +13,7 @@ pub mod Ends
 pub mod Answers
 pub mod Walked
 pub mod Inserts
+pub mod Layouts
 pub mod Interns
 pub mod Starts
 pub mod Ended

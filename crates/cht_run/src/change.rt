@@ -18,7 +18,7 @@ use crate::operations::Began;
 use crate::seat::{Raw, Seat};
 use crate::table::Cht;
 use atomic_step::count::{changed, holds_of, is_live};
-use atomic_step::{Change, Place, Step};
+use atomic_step::{Change, Step};
 use call_machine::find::Walk;
 use call_machine::sought::Sought;
 use call_machine::stage::{Along, Goal, Request};
@@ -106,11 +106,8 @@ impl Cht {
         ensures did { Did M.sight request.now.handle seat.new.me.0 (by_seeing change request.now.handle result) }
     {
         let handle = request.handle;
-        self.begin_load::<M>(
-            seat,
-            Step::SeeHandle { change, handle },
-            Place::Count(handle.slot),
-        )
+        let index = self.layout.count(handle.slot);
+        self.begin_load::<M>(seat, Step::SeeHandle { change, handle }, index)
     }
 
     /// Exchanges the count: whether it was still the one that was loaded.
@@ -129,13 +126,13 @@ impl Cht {
         ensures did { Did M.sight request.now.handle seat.new.me.0 (by_exchange change request.now.handle count result) }
     {
         let handle = request.handle;
-        let place = Place::Count(handle.slot);
+        let index = self.layout.count(handle.slot);
         let step = Step::ChangeEntry {
             change,
             handle,
             count,
         };
-        let found = self.compare_exchange(seat, step, place, count, changed(change, count));
+        let found = self.compare_exchange(seat, step, index, count, changed(change, count));
         found == count
     }
 

@@ -11,10 +11,11 @@ ghost use Rattle.cht_run.specs.Seats.{IsOf};
 ghost use Rattle.cht_run.specs.Starts.{Starts};
 
 use crate::change::sets_out;
+use crate::layout::DRAWS;
 use crate::operations::Began;
 use crate::seat::{Raw, Seat};
 use crate::table::Cht;
-use atomic_step::{Place, Shape, Step};
+use atomic_step::{Shape, Step};
 use call_machine::stage::{Along, Request};
 use intern_log::Handle;
 use std::marker::Brand;
@@ -33,7 +34,7 @@ impl Cht {
         ensures spent { request.now.shape.seats ≤ result → AllDrawn M.sight.origin.table.shape.seats seat.new.me.0.history }
         ensures slots { seat.new.me.1 ≡ seat.old.me.1 }
     {
-        self.begin_load::<M>(seat, Step::LoadDraws, Place::Draws)
+        self.begin_load::<M>(seat, Step::LoadDraws, DRAWS)
     }
 
     /// Raises it: the number that was drawn, if one was left.

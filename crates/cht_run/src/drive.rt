@@ -13,10 +13,11 @@ ghost use Rattle.cht_run.specs.Ended.{KeepsFields};
 ghost use Rattle.cht_run.specs.Runs.{Ran, IsBeginning, IsBeginCall, IsPollCall, IsPollOfWork, IsPolling};
 ghost use Rattle.cht_run.specs.Seats.{sight, IsOf, Sits};
 
+use crate::layout::COUNTER;
 use crate::operations::Began;
 use crate::seat::{Raw, Seat};
 use crate::table::Cht;
-use atomic_step::{Answer, Place, Plan, Step};
+use atomic_step::{Answer, Plan, Step};
 use call_machine::{Call, Machine, Own};
 use crossbeam_utils::Backoff;
 use std::marker::Brand;
@@ -52,7 +53,7 @@ impl Cht {
         ensures slots { seat.new.me.1 ≡ seat.old.me.1 }
         ensures ran { Ran M.sight M.call seat.new.me.0 result }
     {
-        let word = self.begin_load::<M>(seat, Step::LoadCounter, Place::Counter);
+        let word = self.begin_load::<M>(seat, Step::LoadCounter, COUNTER);
         let own = Own {
             number,
             cursor,

@@ -14,10 +14,11 @@ ghost use Rattle.cht_run.specs.History.{log_of};
 ghost use Rattle.cht_run.specs.Seats.{Sits};
 ghost use Rattle.cht_run.specs.Walks.{headed, IsWalk};
 
+use crate::layout::{COUNTER, LEVEL, NEW_LEVEL};
 use crate::operations::Began;
 use crate::seat::Raw;
 use crate::table::Cht;
-use atomic_step::{Place, Step};
+use atomic_step::Step;
 use call_machine::find::Walk;
 use call_machine::stage::{Along, Request};
 use marked_word::{is_redirected, new_level_of, section_word};
@@ -51,7 +52,7 @@ impl Cht {
         requires walk { IsWalk M.sight M.call request.now along.now }
         ensures at { At self.now M.sight M.call request.now seat.new along.now (stage.Find (find.Enter (enter.OpenSection result))) }
     {
-        self.begin_load::<M>(seat, Step::LoadCounter, Place::Counter)
+        self.begin_load::<M>(seat, Step::LoadCounter, COUNTER)
     }
 
     /// Loads the grace counter again: the call goes on to another try.
@@ -65,7 +66,7 @@ impl Cht {
         requires at { At self.now M.sight M.call request.now seat.old along.now (stage.Find (find.Enter enter.LoadCounter)) }
         ensures at { At self.now M.sight M.call request.now seat.new along.now (stage.Find (find.Enter (enter.OpenSection result))) }
     {
-        self.load(seat, Step::LoadCounter, Place::Counter)
+        self.load(seat, Step::LoadCounter, COUNTER)
     }
 
     /// Opens the seat's section, with the counter that it has loaded.
@@ -81,13 +82,9 @@ impl Cht {
         ensures at { At self.now M.sight M.call request.now seat.new along.now (stage.Find find.LoadLevel) }
     {
         let number = request.number;
+        let index = self.layout.section(number);
         let word = section_word(Some(counter));
-        self.store(
-            seat,
-            Step::OpenSection { number, counter },
-            Place::Section(number),
-            word,
-        );
+        self.store(seat, Step::OpenSection { number, counter }, index, word);
     }
 
     /// Loads the level, and turns to the bucket of the text in its row.
@@ -102,7 +99,7 @@ impl Cht {
         ensures at { At self.now M.sight M.call request.now seat.new result (stage.Find find.LoadHead) }
         ensures kept { result.kept ≡ along.now.kept }
     {
-        let level = self.load(seat, Step::LoadLevel, Place::Level);
+        let level = self.load(seat, Step::LoadLevel, LEVEL);
         Along {
             walk: turned_to(along.walk, request.sought.hash, level as u8),
             ..*along
@@ -117,11 +114,8 @@ impl Cht {
         ensures kept { result.kept ≡ along.now.kept }
     {
         let Walk { row, bucket, .. } = along.walk;
-        let head = self.load(
-            seat,
-            Step::LoadHead { row, bucket },
-            Place::Head { row, bucket },
-        );
+        let index = self.layout.head(row, bucket);
+        let head = self.load(seat, Step::LoadHead { row, bucket }, index);
         Along {
             walk: Walk { head, ..along.walk },
             ..*along
@@ -140,7 +134,7 @@ impl Cht {
         ensures at { At self.now M.sight M.call request.now seat.new result (stage.Find find.LoadNewHead) }
         ensures kept { result.kept ≡ along.now.kept }
     {
-        let level = self.load(seat, Step::LoadNewLevel, Place::NewLevel);
+        let level = self.load(seat, Step::LoadNewLevel, NEW_LEVEL);
         Along {
             walk: turned_to(along.walk, request.sought.hash, new_level_of(level)),
             ..*along
@@ -160,11 +154,8 @@ impl Cht {
         ensures kept { result.kept ≡ along.now.kept }
     {
         let Walk { row, bucket, .. } = along.walk;
-        let head = self.load(
-            seat,
-            Step::LoadHead { row, bucket },
-            Place::Head { row, bucket },
-        );
+        let index = self.layout.head(row, bucket);
+        let head = self.load(seat, Step::LoadHead { row, bucket }, index);
         Along {
             walk: Walk { head, ..along.walk },
             ..*along

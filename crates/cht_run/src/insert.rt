@@ -18,7 +18,7 @@ use crate::operations::Began;
 use crate::seat::Raw;
 use crate::table::Cht;
 use atomic_step::count::{handle_at, holds_word};
-use atomic_step::{Answer, Place, Step};
+use atomic_step::{Answer, Step};
 use call_machine::find::Walk;
 use call_machine::stage::{Along, Request};
 use intern_log::Handle;
@@ -77,7 +77,8 @@ impl Cht {
         ensures kept { result.0.kept ≡ along.now.kept }
         ensures walk { result.0.walk ≡ along.now.walk }
     {
-        if self.swap(seat, Step::ClaimSlot { slot }, Place::Claim(slot), 1) == 0 {
+        let index = self.layout.claim(slot);
+        if self.swap(seat, Step::ClaimSlot { slot }, index, 1) == 0 {
             let cursor = next_slot(request.shape.slots, slot);
             (Along { cursor, ..*along }, true)
         } else {
@@ -98,7 +99,8 @@ impl Cht {
         ensures at { At self.now M.sight M.call request.now seat.new along.now (stage.Insert (insert.PutMeta result)) }
         ensures slot { result.slot ≡ slot }
     {
-        let count = self.load(seat, Step::LoadCount { slot }, Place::Count(slot));
+        let index = self.layout.count(slot);
+        let count = self.load(seat, Step::LoadCount { slot }, index);
         handle_at(slot, count)
     }
 
@@ -116,12 +118,8 @@ impl Cht {
     {
         let meta = request.sought.meta;
         let slot = handle.slot;
-        self.store(
-            seat,
-            Step::PutMeta { slot, meta },
-            Place::Meta(slot),
-            meta.to_word(),
-        );
+        let index = self.layout.meta(slot);
+        self.store(seat, Step::PutMeta { slot, meta }, index, meta.to_word());
     }
 
     /// Stores a word of the text.
@@ -140,12 +138,8 @@ impl Cht {
     {
         let word = word_at(request.sought.text, at as usize);
         let slot = handle.slot;
-        self.store(
-            seat,
-            Step::PutText { slot, at, word },
-            Place::Text { slot, at },
-            word,
-        );
+        let index = self.layout.text(slot, at);
+        self.store(seat, Step::PutText { slot, at, word }, index, word);
     }
 
     /// Stores the link: the entry leads to the first node of its bucket.
@@ -162,12 +156,8 @@ impl Cht {
     {
         let next = first_of(along.walk.head);
         let slot = handle.slot;
-        self.store(
-            seat,
-            Step::PutLink { slot, next },
-            Place::Link(slot),
-            link_word(next),
-        );
+        let index = self.layout.link(slot);
+        self.store(seat, Step::PutLink { slot, next }, index, link_word(next));
     }
 
     /// Stores the count: one hold.
@@ -182,13 +172,9 @@ impl Cht {
         requires at { At self.now M.sight M.call request.now seat.old along.now (stage.Insert (insert.PutCount handle)) }
         ensures at { At self.now M.sight M.call request.now seat.new along.now (stage.Insert (insert.Create handle)) }
     {
+        let index = self.layout.count(handle.slot);
         let word = holds_word(handle, 1);
-        self.store(
-            seat,
-            Step::PutCount { handle, holds: 1 },
-            Place::Count(handle.slot),
-            word,
-        );
+        self.store(seat, Step::PutCount { handle, holds: 1 }, index, word);
     }
 
     /// Puts the entry at the head of its bucket: none where it stands there, and else what another has done.
@@ -210,14 +196,14 @@ impl Cht {
             head,
             ..
         } = along.walk;
-        let place = Place::Head { row, bucket };
+        let index = self.layout.head(row, bucket);
         let step = Step::CreateEntry {
             handle,
             row,
             bucket,
             head,
         };
-        let word = self.compare_exchange(seat, step, place, head, head_of(handle.slot));
+        let word = self.compare_exchange(seat, step, index, head, head_of(handle.slot));
         if word == head {
             None
         } else {

@@ -1,12 +1,22 @@
 //! Where the words of a table stand: what does not change is computed once.
-ghost use Rattle.std.specs.Prelude.{◌≡◌, ◌+◌, ◌*◌, ◌^◌, ◌<◌, ◌≤◌};
+ghost use Rattle.std.specs.Prelude.{◌≡◌, ◌^◌, ◌<◌, ◌≤◌};
 ghost use Rattle.table_shape.specs.declared.place.Place.TheVariants as place;
 ghost use Rattle.table_shape.specs.Shape as shapes;
-ghost use Rattle.table_shape.specs.Shape.{IsSound, words_of};
+ghost use Rattle.table_shape.specs.Shape.{IsSound};
 ghost use Rattle.table_shape.specs.Place as places;
 ghost use Rattle.table_shape.specs.Place.{IsInside, index_of};
+ghost use Rattle.cht_run.specs.Layouts.{StandsAt};
 
 use atomic_step::{Place, Shape};
+
+/// The indices of the words that each table has.
+pub(crate) const DRAWS: u32 = 0;
+
+pub(crate) const COUNTER: u32 = 1;
+
+pub(crate) const LEVEL: u32 = 3;
+
+pub(crate) const NEW_LEVEL: u32 = 4;
 
 /// Where the rows of heads and the slots of a table begin, and where its section words stand.
 #[derive(Clone, Copy)]
@@ -31,14 +41,12 @@ pub struct Layout {
     ghost apart: { last_apart ≡ places.bucket_for shape.seats },
 }
 
-/// How many buckets the row of a level has.
+/// How many buckets the row of a level has, if there is such a row.
 #[inline(always)]
 fn row_len(level: u8) -> u32
-    requires level { level ≤ 20 }
-    ensures value { result ≡ 2 ^ level }
-    ensures small { result ≤ 2 ^ 20 }
+    ensures value { level ≤ 20 → result ≡ 2 ^ level }
 {
-    1u32 << level
+    1u32 << (level % 32)
 }
 
 impl Layout {
@@ -63,26 +71,65 @@ impl Layout {
         }
     }
 
-    /// Where a slot begins.
+    /// Where a slot begins, if there is such a slot.
     #[inline(always)]
-    fn slot_at(&self, slot: u32) -> u32
-        requires slot { slot < self.now.shape.slots }
-        ensures value { result ≡ places.slot_from self.now.shape slot }
-        ensures inside { result + shapes.slot_words self.now.shape ≤ words_of self.now.shape }
+    fn slot(&self, slot: u32) -> u32
+        ensures value { slot < self.now.shape.slots → result ≡ places.slot_from self.now.shape slot }
     {
-        self.slots_from + slot * self.slot_words
+        self.slots_from
+            .wrapping_add(slot.wrapping_mul(self.slot_words))
+    }
+
+    /// The index of the claim word of a slot, as of the next ones, where there is such a word.
+    #[inline(always)]
+    pub(crate) fn claim(&self, slot: u32) -> u32
+        ensures value { StandsAt self.now.shape (place.Claim slot) result }
+    {
+        self.slot(slot)
+    }
+
+    /// The index of the link word of a slot.
+    #[inline(always)]
+    pub(crate) fn link(&self, slot: u32) -> u32
+        ensures value { StandsAt self.now.shape (place.Link slot) result }
+    {
+        self.slot(slot).wrapping_add(1)
+    }
+
+    /// The index of the count word of a slot.
+    #[inline(always)]
+    pub(crate) fn count(&self, slot: u32) -> u32
+        ensures value { StandsAt self.now.shape (place.Count slot) result }
+    {
+        self.slot(slot).wrapping_add(2)
+    }
+
+    /// The index of the meta word of a slot.
+    #[inline(always)]
+    pub(crate) fn meta(&self, slot: u32) -> u32
+        ensures value { StandsAt self.now.shape (place.Meta slot) result }
+    {
+        self.slot(slot).wrapping_add(3)
+    }
+
+    /// The index of a text word of a slot.
+    #[inline(always)]
+    pub(crate) fn text(&self, slot: u32, at: u32) -> u32
+        ensures value { StandsAt self.now.shape (place.Text slot at) result }
+    {
+        self.slot(slot).wrapping_add(4).wrapping_add(at)
     }
 
     /// The index of the section word of a seat.
     #[inline(always)]
-    fn section_at(&self, seat: u32) -> u32
-        requires seat { seat < self.now.shape.seats }
-        ensures value { result ≡ places.section_at self.now.shape seat }
+    pub(crate) fn section(&self, seat: u32) -> u32
+        ensures value { StandsAt self.now.shape (place.Section seat) result }
     {
         if self.is_spread {
-            self.greatest_from + 8 * (seat + 1)
+            let apart = seat.wrapping_mul(8);
+            self.greatest_from.wrapping_add(8).wrapping_add(apart)
         } else {
-            5 + seat
+            seat.wrapping_add(5)
         }
     }
 
@@ -100,19 +147,18 @@ impl Layout {
 
     /// The index of a head.
     #[inline(always)]
-    fn head_at(&self, row: u8, bucket: u32) -> u32
-        requires inside { IsInside self.now.shape (place.Head row bucket) }
-        ensures value { result ≡ places.head_at self.now.shape row bucket }
+    pub(crate) fn head(&self, row: u8, bucket: u32) -> u32
+        ensures value { StandsAt self.now.shape (place.Head row bucket) result }
     {
         if self.is_for_seat(row, bucket) {
             4 + bucket / 8
         } else {
-            self.rows_from + (row_len(row) - self.least_row) + bucket
+            let below = self.rows_from.wrapping_sub(self.least_row);
+            below.wrapping_add(row_len(row)).wrapping_add(bucket)
         }
     }
 
     /// The index of a word.
-    #[inline(always)]
     pub(crate) fn index(&self, place: Place) -> u32
         requires inside { IsInside self.now.shape place }
         ensures value { result ≡ index_of self.now.shape place }
@@ -123,13 +169,13 @@ impl Layout {
             Place::ResizeLock => 2,
             Place::Level => 3,
             Place::NewLevel => 4,
-            Place::Section(seat) => self.section_at(seat),
-            Place::Head { row, bucket } => self.head_at(row, bucket),
-            Place::Claim(slot) => self.slot_at(slot),
-            Place::Link(slot) => self.slot_at(slot) + 1,
-            Place::Count(slot) => self.slot_at(slot) + 2,
-            Place::Meta(slot) => self.slot_at(slot) + 3,
-            Place::Text { slot, at } => self.slot_at(slot) + 4 + at,
+            Place::Section(seat) => self.section(seat),
+            Place::Head { row, bucket } => self.head(row, bucket),
+            Place::Claim(slot) => self.claim(slot),
+            Place::Link(slot) => self.link(slot),
+            Place::Count(slot) => self.count(slot),
+            Place::Meta(slot) => self.meta(slot),
+            Place::Text { slot, at } => self.text(slot, at),
         }
     }
 }

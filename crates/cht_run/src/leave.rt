@@ -12,7 +12,7 @@ use crate::operations::Began;
 use crate::seat::Raw;
 use crate::table::Cht;
 use atomic_step::count::holds_word;
-use atomic_step::{Answer, Place, Step};
+use atomic_step::{Answer, Step};
 use call_machine::find::Walk;
 use call_machine::stage::{Along, Request};
 use intern_log::Handle;
@@ -32,12 +32,9 @@ impl Cht {
         ensures at { At self.now M.sight M.call request.now seat.new along.now (stage.Answered answer) }
     {
         let number = request.number;
-        self.store(
-            seat,
-            Step::CloseSection { number },
-            Place::Section(number),
-            section_word(None),
-        );
+        let index = self.layout.section(number);
+        let word = section_word(None);
+        self.store(seat, Step::CloseSection { number }, index, word);
     }
 
     /// Stores a count of 0 into a slot that was claimed in vain.
@@ -53,13 +50,9 @@ impl Cht {
         requires at { At self.now M.sight M.call request.now seat.old along.now (stage.Leave (leave.UndoCount handle (next.Answer answer))) }
         ensures at { At self.now M.sight M.call request.now seat.new along.now (stage.Leave (leave.UndoClaim handle.slot (next.Answer answer))) }
     {
+        let index = self.layout.count(handle.slot);
         let word = holds_word(handle, 0);
-        self.store(
-            seat,
-            Step::PutCount { handle, holds: 0 },
-            Place::Count(handle.slot),
-            word,
-        );
+        self.store(seat, Step::PutCount { handle, holds: 0 }, index, word);
     }
 
     /// Gives a slot back that was claimed in vain.
@@ -76,7 +69,8 @@ impl Cht {
         ensures at { At self.now M.sight M.call request.now seat.new result (stage.Leave (leave.Close (next.Answer answer))) }
         ensures kept { result.kept ≡ None }
     {
-        self.store(seat, Step::FreeSlot { slot }, Place::Claim(slot), 0);
+        let index = self.layout.claim(slot);
+        self.store(seat, Step::FreeSlot { slot }, index, 0);
         Along {
             kept: None,
             ..*along
@@ -131,12 +125,9 @@ impl Cht {
         ensures at { At self.now M.sight M.call request.now seat.new result (stage.Find (find.Enter enter.LoadCounter)) }
     {
         let number = request.number;
-        self.store(
-            seat,
-            Step::CloseSection { number },
-            Place::Section(number),
-            section_word(None),
-        );
+        let index = self.layout.section(number);
+        let word = section_word(None);
+        self.store(seat, Step::CloseSection { number }, index, word);
         Along {
             walk: Walk {
                 passed: 0,

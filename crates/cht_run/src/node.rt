@@ -14,7 +14,7 @@ use crate::operations::Began;
 use crate::seat::Raw;
 use crate::table::Cht;
 use atomic_step::count::{handle_at, holds_of, raised};
-use atomic_step::{Answer, Place, Step};
+use atomic_step::{Answer, Step};
 use call_machine::find::Walk;
 use call_machine::stage::{Along, Goal, Request};
 use intern_log::{Handle, Kind};
@@ -55,7 +55,8 @@ impl Cht {
         requires at { At self.now M.sight M.call request.now seat.old along.now (stage.Node (node.Meta slot)) }
         ensures at { At self.now M.sight M.call request.now seat.new along.now (compared (asked_of request.now) slot 0 result) }
     {
-        self.load(seat, Step::LoadMeta { slot }, Place::Meta(slot)) == request.sought.meta.to_word()
+        let index = self.layout.meta(slot);
+        self.load(seat, Step::LoadMeta { slot }, index) == request.sought.meta.to_word()
     }
 
     /// Whether a word of a node's text is that of the text.
@@ -72,7 +73,8 @@ impl Cht {
         requires word { at < words_of (length request.now.sought.text.now) }
         ensures at { At self.now M.sight M.call request.now seat.new along.now (compared (asked_of request.now) slot (at + 1) result) }
     {
-        let word = self.load(seat, Step::LoadText { slot, at }, Place::Text { slot, at });
+        let index = self.layout.text(slot, at);
+        let word = self.load(seat, Step::LoadText { slot, at }, index);
         equal_word(request.sought.text, at as usize, word)
     }
 
@@ -112,7 +114,8 @@ impl Cht {
         ensures at { At self.now M.sight M.call request.now seat.new along.now (counted (asked_of request.now) along.now slot result) }
     {
         let kind = request.kind;
-        self.load(seat, Step::SeeEntry { kind, slot }, Place::Count(slot))
+        let index = self.layout.count(slot);
+        self.load(seat, Step::SeeEntry { kind, slot }, index)
     }
 
     /// Takes a hold on a node that has the text: whether the count was still the one that was loaded.
@@ -129,13 +132,8 @@ impl Cht {
         ensures at { At self.now M.sight M.call request.now seat.new along.now (taken (asked_of request.now) along.now slot count result) }
     {
         let more = raised(count);
-        self.compare_exchange(
-            seat,
-            Step::TakeEntry { slot, count },
-            Place::Count(slot),
-            count,
-            more,
-        ) == count
+        let index = self.layout.count(slot);
+        self.compare_exchange(seat, Step::TakeEntry { slot, count }, index, count, more) == count
     }
 
     /// Loads the link of a node, and goes on to the next one.
@@ -152,7 +150,8 @@ impl Cht {
         ensures kept { result.0.kept ≡ along.now.kept }
         ensures further { result.0.walk.passed ≡ along.now.walk.passed + 1 }
     {
-        let word = self.load(seat, Step::LoadLink { slot }, Place::Link(slot));
+        let index = self.layout.link(slot);
+        let word = self.load(seat, Step::LoadLink { slot }, index);
         let passed = along.walk.passed + 1;
         let walk = Walk {
             passed,

@@ -4,13 +4,14 @@ ghost use Rattle.atomic_step.specs.declared.access.Deed.TheVariants as deed;
 ghost use Rattle.atomic_step.specs.declared.plan.Plan.TheVariants as plan;
 ghost use Rattle.atomic_step.specs.SoundStep.{IsSoundStep};
 ghost use Rattle.call_machine.specs.Machine.{plan_of};
-ghost use Rattle.cht_run.specs.Begins.{MayCall, first_of, next_in, SoundIn, FitsIn, GoesOn, GoesFirst, Does};
+ghost use Rattle.cht_run.specs.Begins.{MayCall, first_of, next_in, SoundIn, FitsIn, GoesOn, GoesFirst};
+ghost use Rattle.cht_run.specs.Layouts.{Does};
 ghost use Rattle.cht_run.specs.Seats.{Sits};
 
 use crate::seat::Raw;
 use crate::sight::Sight;
 use crate::table::Cht;
-use atomic_step::{Deed, Place, Step};
+use atomic_step::{Deed, Step};
 use atomic_table::Play;
 use std::marker::{Brand, PhantomData};
 
@@ -52,66 +53,62 @@ impl Play<(), Sight> for Further {
 impl Cht {
     /// Loads a word as the first step of a call, and answers it.
     #[inline(always)]
-    pub(crate) fn begin_load<M: Began>(&self, seat: &mut Raw, step: Step, place: Place) -> u64
+    pub(crate) fn begin_load<M: Began>(&self, seat: &mut Raw, step: Step, at: u32) -> u64
         requires sits { Sits self.now seat.old }
         requires call { MayCall seat.old.me.0 M.call }
         requires next { plan_of (first_of seat.old.me.0 M.call) ≡ plan.Step step }
         requires sound { IsSoundStep self.now.origin.table.shape seat.old.me.0.number step }
-        requires loads { Does step place deed.Load }
+        requires loads { Does self.now.layout.shape step at deed.Load }
         ensures sits { Sits self.now seat.new }
         ensures told { GoesFirst M.call seat.old.me.0 result seat.new.me.0 }
     {
         let _step = step;
-        let at = self.layout.index(place) as usize;
-        self.table.shared.load::<First<M>>(seat, at)
+        self.table.shared.load::<First<M>>(seat, at as usize)
     }
 
     /// Loads a word as the next step of the seat's call, and answers it.
     #[inline(always)]
-    pub(crate) fn load(&self, seat: &mut Raw, step: Step, place: Place) -> u64
+    pub(crate) fn load(&self, seat: &mut Raw, step: Step, at: u32) -> u64
         requires sits { Sits self.now seat.old }
         requires next { next_in seat.old.me.0.seat ≡ Some step }
         requires sound { SoundIn self.now.origin seat.old.me.0.number seat.old.me.0.seat }
-        requires loads { Does step place deed.Load }
+        requires loads { Does self.now.layout.shape step at deed.Load }
         ensures sits { Sits self.now seat.new }
         ensures told { GoesOn seat.old.me.0 result seat.new.me.0 }
         ensures fits { FitsIn seat.old.me.0.seat result }
     {
         let _step = step;
-        let at = self.layout.index(place) as usize;
-        self.table.shared.load::<Further>(seat, at)
+        self.table.shared.load::<Further>(seat, at as usize)
     }
 
     /// Stores a word as the next step of the seat's call, and answers the word that it found.
     #[inline(always)]
-    pub(crate) fn store(&self, seat: &mut Raw, step: Step, place: Place, value: u64) -> u64
+    pub(crate) fn store(&self, seat: &mut Raw, step: Step, at: u32, value: u64) -> u64
         requires sits { Sits self.now seat.old }
         requires next { next_in seat.old.me.0.seat ≡ Some step }
         requires sound { SoundIn self.now.origin seat.old.me.0.number seat.old.me.0.seat }
-        requires stores { Does step place (deed.Store value) }
+        requires stores { Does self.now.layout.shape step at (deed.Store value) }
         ensures sits { Sits self.now seat.new }
         ensures told { GoesOn seat.old.me.0 result seat.new.me.0 }
         ensures fits { FitsIn seat.old.me.0.seat result }
     {
         let _step = step;
-        let at = self.layout.index(place) as usize;
-        self.table.shared.swap::<Further>(seat, at, value)
+        self.table.shared.swap::<Further>(seat, at as usize, value)
     }
 
     /// Swaps a word as the next step of the seat's call, and answers the word that it found.
     #[inline(always)]
-    pub(crate) fn swap(&self, seat: &mut Raw, step: Step, place: Place, value: u64) -> u64
+    pub(crate) fn swap(&self, seat: &mut Raw, step: Step, at: u32, value: u64) -> u64
         requires sits { Sits self.now seat.old }
         requires next { next_in seat.old.me.0.seat ≡ Some step }
         requires sound { SoundIn self.now.origin seat.old.me.0.number seat.old.me.0.seat }
-        requires swaps { Does step place (deed.Swap value) }
+        requires swaps { Does self.now.layout.shape step at (deed.Swap value) }
         ensures sits { Sits self.now seat.new }
         ensures told { GoesOn seat.old.me.0 result seat.new.me.0 }
         ensures fits { FitsIn seat.old.me.0.seat result }
     {
         let _step = step;
-        let at = self.layout.index(place) as usize;
-        self.table.shared.swap::<Further>(seat, at, value)
+        self.table.shared.swap::<Further>(seat, at as usize, value)
     }
 
     /// Exchanges a word, where it is the old one, as the next step of the seat's call, and answers the word that it found.
@@ -120,23 +117,22 @@ impl Cht {
         &self,
         seat: &mut Raw,
         step: Step,
-        place: Place,
+        at: u32,
         old: u64,
         new: u64,
     ) -> u64
         requires sits { Sits self.now seat.old }
         requires next { next_in seat.old.me.0.seat ≡ Some step }
         requires sound { SoundIn self.now.origin seat.old.me.0.number seat.old.me.0.seat }
-        requires exchanges { Does step place (deed.Exchange old new) }
+        requires exchanges { Does self.now.layout.shape step at (deed.Exchange old new) }
         ensures sits { Sits self.now seat.new }
         ensures told { GoesOn seat.old.me.0 result seat.new.me.0 }
         ensures fits { FitsIn seat.old.me.0.seat result }
     {
         let _step = step;
-        let at = self.layout.index(place) as usize;
         self.table
             .shared
-            .compare_exchange::<Further>(seat, at, old, new)
+            .compare_exchange::<Further>(seat, at as usize, old, new)
     }
 
     /// Makes the first step of a call, whatever it is, and answers the word that it found.

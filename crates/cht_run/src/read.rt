@@ -23,11 +23,12 @@ ghost use Rattle.cht_run.specs.Seats.{seen, numbers, IsOf};
 ghost use Rattle.cht_run.specs.Starts.{Starts};
 
 use crate::change::sets_out;
+use crate::layout::COUNTER;
 use crate::operations::Began;
 use crate::seat::{Raw, Seat};
 use crate::table::Cht;
 use atomic_step::count::is_live;
-use atomic_step::{Answer, Place, Step};
+use atomic_step::{Answer, Step};
 use call_machine::stage::{Along, Request};
 use intern_log::{Handle, Kind};
 use marked_word::{length_in, section_word};
@@ -59,7 +60,8 @@ impl Cht {
         ensures short { result ≤ 8 * self.now.origin.table.shape.text_words }
     {
         let slot = request.handle.slot;
-        length_in(self.begin_load::<M>(seat, Step::LoadMeta { slot }, Place::Meta(slot)))
+        let index = self.layout.meta(slot);
+        length_in(self.begin_load::<M>(seat, Step::LoadMeta { slot }, index))
     }
 
     /// Loads the counter, before a section is opened.
@@ -74,7 +76,7 @@ impl Cht {
         ensures at { At self.now M.sight M.call request.now seat.new along.now (stage.Read (read.Enter (enter.OpenSection result))) }
         ensures own { done_by M.sight.number seat.new.me.0 ≡ done_by M.sight.number M.sight }
     {
-        self.begin_load::<M>(seat, Step::LoadCounter, Place::Counter)
+        self.begin_load::<M>(seat, Step::LoadCounter, COUNTER)
     }
 
     /// Opens the section in which the text is read.
@@ -91,13 +93,9 @@ impl Cht {
         ensures own { done_by M.sight.number seat.new.me.0 ≡ done_by M.sight.number seat.old.me.0 ++ what.Open counter ∷ [] }
     {
         let number = request.number;
+        let index = self.layout.section(number);
         let word = section_word(Some(counter));
-        self.store(
-            seat,
-            Step::OpenSection { number, counter },
-            Place::Section(number),
-            word,
-        );
+        self.store(seat, Step::OpenSection { number, counter }, index, word);
     }
 
     /// Whether the entry of the handle is live.
@@ -108,7 +106,8 @@ impl Cht {
         ensures own { done_by M.sight.number seat.new.me.0 ≡ done_by M.sight.number seat.old.me.0 }
     {
         let slot = request.handle.slot;
-        let count = self.load(seat, Step::LoadCount { slot }, Place::Count(slot));
+        let index = self.layout.count(slot);
+        let count = self.load(seat, Step::LoadCount { slot }, index);
         is_live(request.handle, count)
     }
 
@@ -122,7 +121,8 @@ impl Cht {
         ensures short { result ≤ 8 * self.now.origin.table.shape.text_words }
     {
         let slot = request.handle.slot;
-        length_in(self.load(seat, Step::LoadMeta { slot }, Place::Meta(slot)))
+        let index = self.layout.meta(slot);
+        length_in(self.load(seat, Step::LoadMeta { slot }, index))
     }
 
     /// Loads a word of the text.
@@ -142,7 +142,8 @@ impl Cht {
         ensures longer { IsLonger (log_of seat.old.me.0.history) (log_of seat.new.me.0.history) }
     {
         let slot = request.handle.slot;
-        self.load(seat, Step::LoadText { slot, at }, Place::Text { slot, at })
+        let index = self.layout.text(slot, at);
+        self.load(seat, Step::LoadText { slot, at }, index)
     }
 
     /// Closes the section in which the text was read.
@@ -160,12 +161,9 @@ impl Cht {
         ensures longer { IsLonger (log_of seat.old.me.0.history) (log_of seat.new.me.0.history) }
     {
         let number = request.number;
-        self.store(
-            seat,
-            Step::CloseSection { number },
-            Place::Section(number),
-            section_word(None),
-        );
+        let index = self.layout.section(number);
+        let word = section_word(None);
+        self.store(seat, Step::CloseSection { number }, index, word);
     }
 
     /// Loads the words of the text, and stores them.

@@ -7,17 +7,13 @@ use Rattle.atomic_step.specs.Step.{access_of}
 use Rattle.cht_run.proofs.Deeds.{starts, goes_first_stays}
 use Rattle.cht_run.proofs.table.Cht.begin_load.Goals as goal
 
-pub index-at-requires : goal.index-at-requires
-index-at-requires g c =
-    let s = c.args.self.now in
-    record { inside = subst (λ (shape : Shape). IsInside shape c.args.place) (sym s.laid) (subst (IsInside s.origin.table.shape) c.requires.loads.0 c.requires.sound.0) }
-
 pub load-requires : goal.load-requires
 load-requires g c =
     let s = c.args.self.now in
     let v = c.args.seat.now.me in
-    let index_is = c.index-at.ensures.value ∙ ap (λ (shape : Shape). index_of shape c.args.place) s.laid ∙ ap (index_of s.origin.table.shape) (sym c.requires.loads.0) in
-    let asks = starts s.table.shared.key.origin s.origin s.table.shared.table_id.words s.table.shared.table_id.slots c.args.seat.now.id v c.args.step (access_of c.args.step) c.index-at.result s.of s.wide
+    let place = (access_of c.args.step).place in
+    let index_is = c.requires.loads.0 (subst (λ (shape : Shape). IsInside shape place) (sym s.laid) c.requires.sound.0) ∙ ap (λ (shape : Shape). index_of shape place) s.laid in
+    let asks = starts s.table.shared.key.origin s.origin s.table.shared.table_id.words s.table.shared.table_id.slots c.args.seat.now.id v c.args.step (access_of c.args.step) c.args.at s.of s.wide
     c.requires.sits.origin c.requires.sound refl index_is (λ n. n)
     (λ n. sym (ap (λ (d : Deed). word_after d n) c.requires.loads.1)) g.M.Began.call c.requires.call c.requires.next in
     (c.requires.sits.table, asks.0, asks.1)

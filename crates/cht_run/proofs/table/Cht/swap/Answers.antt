@@ -7,17 +7,13 @@ use Rattle.atomic_step.specs.Step.{access_of}
 use Rattle.cht_run.proofs.Deeds.{step_is_sound, further, goes_on_stays, goes_on_fits}
 use Rattle.cht_run.proofs.table.Cht.swap.Goals as goal
 
-pub index-at-requires : goal.index-at-requires
-index-at-requires c =
-    let s = c.args.self.now in
-    record { inside = subst (λ (shape : Shape). IsInside shape c.args.place) (sym s.laid) (subst (IsInside s.origin.table.shape) c.requires.swaps.0 (step_is_sound s.origin c.args.seat.now.me.0 c.args.step c.requires.sits.seat c.requires.next c.requires.sound).0) }
-
 pub swap-requires : goal.swap-requires
 swap-requires c =
     let s = c.args.self.now in
     let v = c.args.seat.now.me in
-    let index_is = c.index-at.ensures.value ∙ ap (λ (shape : Shape). index_of shape c.args.place) s.laid ∙ ap (index_of s.origin.table.shape) (sym c.requires.swaps.0) in
-    let asks = further s.table.shared.key.origin s.origin s.table.shared.table_id.words s.table.shared.table_id.slots c.args.seat.now.id v c.args.step (access_of c.args.step) c.index-at.result s.of s.wide
+    let place = (access_of c.args.step).place in
+    let index_is = c.requires.swaps.0 (subst (λ (shape : Shape). IsInside shape place) (sym s.laid) (step_is_sound s.origin c.args.seat.now.me.0 c.args.step c.requires.sits.seat c.requires.next c.requires.sound).0) ∙ ap (λ (shape : Shape). index_of shape place) s.laid in
+    let asks = further s.table.shared.key.origin s.origin s.table.shared.table_id.words s.table.shared.table_id.slots c.args.seat.now.id v c.args.step (access_of c.args.step) c.args.at s.of s.wide
     c.requires.sits.origin (step_is_sound s.origin c.args.seat.now.me.0 c.args.step c.requires.sits.seat c.requires.next c.requires.sound) refl index_is (λ n. c.args.value)
     (λ n. sym (ap (λ (d : Deed). word_after d n) c.requires.swaps.1)) c.requires.sits.seat c.requires.next in
     (c.requires.sits.table, asks.0, asks.1)
