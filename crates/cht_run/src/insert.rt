@@ -212,6 +212,7 @@ impl Cht {
     }
 
     /// Claims the first free slot from the cursor on: none where each was taken.
+    #[inline(always)]
     pub(crate) fn claim_any<'t, M: Began>(
         &self,
         seat: &mut Raw,
@@ -241,6 +242,7 @@ impl Cht {
     }
 
     /// Fills the slot that was claimed: the handle of its entry.
+    #[inline(always)]
     pub(crate) fn fill<'t, M: Began>(
         &self,
         seat: &mut Raw,
@@ -263,6 +265,7 @@ impl Cht {
     }
 
     /// Makes an entry, or tells why there is none; the section is still open.
+    #[inline(always)]
     pub(crate) fn insert<'t, M: Began>(
         &self,
         seat: &mut Raw,
