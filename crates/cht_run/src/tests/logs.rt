@@ -14,10 +14,10 @@ use crate::intern_wait::Interned;
 use crate::statistics::Statistics;
 use std::sync::Wait;
 
-/// A table with a slot for each text that may be made, of which none is freed.
+/// A table with a slot for each entry that may be made. None is freed.
 static LONG: Shape = Shape { slots: 512, ..WIDE };
 
-/// A seat, and how often it has interned a text and let go of it. Its events are no others.
+/// A seat, and how often it has interned a text and let go of it: it was given that many holds, and has dropped as many.
 #[derive(Drop)]
 struct Worker {
     seat: Seat,
@@ -39,14 +39,7 @@ fn comes_and_goes<R: Wait>(rt: &R, cht: &Cht, worker: Worker, text: &[u8]) -> Wo
 {
     let Worker { mut seat, times } = worker;
     match cht.intern(rt, &mut seat, text) {
-        Interned::Created(handle) => {
-            cht.drop_ref(rt, &mut seat, handle);
-            Worker {
-                seat,
-                times: times + 1,
-            }
-        }
-        Interned::Taken(handle) => {
+        Interned::Created(handle) | Interned::Taken(handle) => {
             cht.drop_ref(rt, &mut seat, handle);
             Worker {
                 seat,

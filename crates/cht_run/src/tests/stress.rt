@@ -1,8 +1,8 @@
 //! Eight threads on a small table. They intern, and let go of holds or kill entries, while they clean, sweep, grow and
 //! shrink the table.
 //!
-//! What they count has to agree in the end with what the table has. That the log of such a run is lawful is a clause of
-//! each function that closes the table.
+//! What they have counted has to agree with what the table has in the end. No log is kept as a program runs, so none can be
+//! read here: that the log of such a run is lawful is a clause of `settle`.
 ghost use Rattle.std.specs.Prelude.{◌≡◌, true, []};
 ghost use Rattle.std.specs.Thread.{IsSync};
 ghost use Rattle.intern_log.specs.declared.event.Kind.TheVariants.{Counted, Weak};
@@ -192,7 +192,7 @@ fn take_turn<R: Wait>(rt: &R, cht: &Cht, seat: &mut Seat, turn: u32) -> Count
     count
 }
 
-/// What one thread does: sixty turns, of which the first is by its number.
+/// What one thread does: a thousand turns, of which the first is by its number.
 fn work<R: Wait>(rt: &R, cht: &Cht, mut seat: Seat) -> (Seat, Count)
     requires of { IsOf cht.now seat }
     requires nothing { HasNothing seat }
@@ -205,7 +205,7 @@ fn work<R: Wait>(rt: &R, cht: &Cht, mut seat: Seat) -> (Seat, Count)
         threads: 1,
         ..Count::NONE
     };
-    for turn in 0..60 {
+    for turn in 0..1_000 {
         let more = take_turn(rt, cht, &mut seat, first.wrapping_add(turn));
         count = count.plus(more);
     }
