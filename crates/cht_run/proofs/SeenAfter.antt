@@ -1,7 +1,8 @@
 -- What a seat has seen after a call, a meeting or a join: what was created, what it holds, and how many events callers see of it.
-use Rattle.std.proofs.Common.{◌≡◌, ℕ, ◌+◌, Bool, true, false, cond, ◌&&◌, List, [], ◌∷◌, map, filter, refl, sym, ap, subst, ◌∙◌, arith}
+use Rattle.std.proofs.Common.{◌≡◌, ℕ, ◌+◌, Bool, true, false, cond, ◌&&◌, List, [], ◌∷◌, ◌++◌, map, filter, refl, sym, ap, subst, ◌∙◌, arith}
 use Rattle.std.proofs.lemmas.List.Sums.{sum_by-append, sum_by-cons}
 use Rattle.std.specs.List.{All}
+use Rattle.std.proofs.lemmas.List.{append-nil}
 use Rattle.std.proofs.lemmas.List.Elements.{All-head, All-tail}
 use Rattle.intern_log.specs.declared.event.Event.{Event}
 use Rattle.intern_log.specs.declared.event.Handle.{Handle}
@@ -28,8 +29,8 @@ use Rattle.cht_run.specs.declared.sight.Entry.{Entry}
 use Rattle.cht_run.specs.Answers.{LooksUp, WhyLooksUp}
 use Rattle.cht_run.specs.Changes.{made_permanent, WhyPermanent}
 use Rattle.cht_run.specs.Ended.{Ended, Only}
-use Rattle.cht_run.specs.Ends.{Stays, log_in}
-use Rattle.cht_run.specs.History.{log_of, Follows}
+use Rattle.cht_run.specs.Ends.{IsAlone, Stays, log_in}
+use Rattle.cht_run.specs.History.{log_of, told_by, Follows}
 use Rattle.cht_run.specs.InternWaits.{InternsWaiting, WhyInternsWaiting}
 use Rattle.cht_run.specs.Reads.{sections_of, WhyReads}
 use Rattle.cht_run.specs.Retries.{WhyReleases}
@@ -59,6 +60,12 @@ module _ (t : Table) (old new : Seat) (Did : List What → Type 0) (Why : List E
     -- there are as many events more as callers see of the call
     pub counted_on : (p : What → Bool) → events_in p (mine (seen new) (numbers new)) ≡ events_in p (mine (seen old) (numbers old)) + events_in p (map (by old.number) shown)
     counted_on p = ap (events_in p) (added t old new Did Why e shown is) ∙ sum_by-append (λ (x : Event). cond (p x.what) 1 0) (mine (seen old) (numbers old)) (map (by old.number) shown)
+
+-- a seat that is alone has seen no more after a call that did nothing
+pub nothing_added : (t : Table) (old new : Seat) (Why : List Event → List Event → Type 0) → Ended t old new (Only []) Why → IsAlone old → history new ≡ history old
+nothing_added t old new Why e alone =
+    let none : e.window ≡ [] = sym (e.alone alone) ∙ e.own ∙ ap (map (told_by old.number)) e.did in
+    e.whole ∙ ap (λ w. history old ++ w) none ∙ append-nil (history old)
 
 -- one event more is counted where it is of the kind
 abbrev one_if : Bool → ℕ

@@ -2,6 +2,7 @@
 mod alone;
 mod calls;
 mod ends;
+mod graces;
 mod grows;
 mod handles;
 mod logs;
