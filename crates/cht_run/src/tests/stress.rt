@@ -192,7 +192,7 @@ fn take_turn<R: Wait>(rt: &R, cht: &Cht, seat: &mut Seat, turn: u32) -> Count
     count
 }
 
-/// What one thread does: a thousand turns, of which the first is by its number.
+/// What one thread does: ten thousand turns, of which the first is by its number.
 fn work<R: Wait>(rt: &R, cht: &Cht, mut seat: Seat) -> (Seat, Count)
     requires of { IsOf cht.now seat }
     requires nothing { HasNothing seat }
@@ -205,7 +205,7 @@ fn work<R: Wait>(rt: &R, cht: &Cht, mut seat: Seat) -> (Seat, Count)
         threads: 1,
         ..Count::NONE
     };
-    for turn in 0..1_000 {
+    for turn in 0..10_000 {
         let more = take_turn(rt, cht, &mut seat, first.wrapping_add(turn));
         count = count.plus(more);
     }
