@@ -70,7 +70,7 @@ fn statistics_part_permanent_texts(rt: HostRuntime) -> Result<(), Fail> {
 
 #[test]
 fn an_intern_passes_the_nodes_of_its_bucket(rt: HostRuntime) -> Result<(), Fail> {
-    let Ok((cht, mut seat)) = Cht::make(rt.alloc(), Kind::Counted, WIDE, 6) else {
+    let Ok((cht, mut seat)) = Cht::make(rt.alloc(), Kind::Counted, WIDE, 0) else {
         panic!(rt; "there is memory for a small table")
     };
     assert!(rt;

@@ -50,7 +50,7 @@ fn is_over_at_once<R: Wait>(rt: &R, cht: &Cht, seat: &mut Seat, grace: Grace) ->
 
 #[test]
 fn a_grace_is_polled(rt: HostRuntime) -> Result<(), Fail> {
-    let Ok((cht, mut seat)) = Cht::make(rt.alloc(), Kind::Counted, WIDE, 6) else {
+    let Ok((cht, mut seat)) = Cht::make(rt.alloc(), Kind::Counted, WIDE, 0) else {
         panic!(rt; "there is memory for a small table")
     };
     match cht.begin_grace(&mut seat) {

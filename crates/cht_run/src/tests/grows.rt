@@ -27,7 +27,7 @@ fn is_made<R: Wait>(rt: &R, cht: &Cht, seat: &mut Seat, text: &[u8]) -> bool
 
 #[test]
 fn one_bucket_grows_into_two(rt: HostRuntime) -> Result<(), Fail> {
-    let Ok((cht, mut seat)) = Cht::make(rt.alloc(), Kind::Counted, WIDE, 6) else {
+    let Ok((cht, mut seat)) = Cht::make(rt.alloc(), Kind::Counted, WIDE, 0) else {
         panic!(rt; "there is memory for a small table")
     };
     assert!(rt; is_made(&rt, &cht, &mut seat, b"y"));

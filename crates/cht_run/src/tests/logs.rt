@@ -109,7 +109,7 @@ fn close_after(cht: Cht, worker: Worker) -> (Statistics, Front, u32)
 
 #[test]
 fn a_log_has_each_hold_and_each_drop(rt: HostRuntime) -> Result<(), Fail> {
-    let Ok((cht, mut seat)) = Cht::make(rt.alloc(), Kind::Counted, LONG, 6) else {
+    let Ok((cht, mut seat)) = Cht::make(rt.alloc(), Kind::Counted, LONG, 0) else {
         panic!(rt; "there is memory for a table")
     };
     let Ok(other) = cht.split(&mut seat) else {

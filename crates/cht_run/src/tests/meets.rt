@@ -22,7 +22,7 @@ fn meet_to_hear(cht: &Cht, seat: &mut Seat, other: &mut Seat, handle: Handle)
 
 #[test]
 fn a_seat_kills_what_another_has_made(rt: HostRuntime) -> Result<(), Fail> {
-    let Ok((cht, mut seat)) = Cht::make(rt.alloc(), Kind::Weak, WIDE, 6) else {
+    let Ok((cht, mut seat)) = Cht::make(rt.alloc(), Kind::Weak, WIDE, 0) else {
         panic!(rt; "there is memory for a small table")
     };
     let Ok(mut other) = cht.split(&mut seat) else {

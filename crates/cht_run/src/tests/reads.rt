@@ -55,7 +55,7 @@ fn hold_for_good(cht: &Cht, seat: &mut Seat, handle: Handle) -> TryPermanent
 
 #[test]
 fn a_held_text_is_read_and_stays(rt: HostRuntime) -> Result<(), Fail> {
-    let Ok((cht, mut seat)) = Cht::make(rt.alloc(), Kind::Counted, WIDE, 6) else {
+    let Ok((cht, mut seat)) = Cht::make(rt.alloc(), Kind::Counted, WIDE, 0) else {
         panic!(rt; "there is memory for a small table")
     };
     let Interned::Created(a) = cht.intern(&rt, &mut seat, b"a") else {
@@ -100,7 +100,7 @@ fn kill_created(cht: &Cht, seat: &mut Seat, handle: Handle) -> TryKill
 
 #[test]
 fn a_killed_text_is_stale(rt: HostRuntime) -> Result<(), Fail> {
-    let Ok((cht, mut seat)) = Cht::make(rt.alloc(), Kind::Weak, WIDE, 6) else {
+    let Ok((cht, mut seat)) = Cht::make(rt.alloc(), Kind::Weak, WIDE, 0) else {
         panic!(rt; "there is memory for a small table")
     };
     let TryInternWeak::Created(a) = cht.try_intern_weak(&mut seat, b"a") else {

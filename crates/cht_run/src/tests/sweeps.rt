@@ -61,7 +61,7 @@ fn cleaned(unlinked: u64, graces: u64) -> Cleaned {
 
 #[test]
 fn what_is_gone_is_unlinked_once(rt: HostRuntime) -> Result<(), Fail> {
-    let Ok((cht, mut seat)) = Cht::make(rt.alloc(), Kind::Counted, WIDE, 6) else {
+    let Ok((cht, mut seat)) = Cht::make(rt.alloc(), Kind::Counted, WIDE, 0) else {
         panic!(rt; "there is memory for a small table")
     };
     assert!(rt; comes_and_is_gone(&rt, &cht, &mut seat, b"a"));
