@@ -33,7 +33,7 @@ stands (x ∷ log) numbers e is = go (is_visible x.what && is_among numbers x.se
     go false is rest = let (front, back, at) = rest is in (x ∷ front, back, ap (λ l. x ∷ l) at)
 
 -- what was created stays created
-created_still : (log more : List Event) (h : Handle) → IsCreated log h → IsCreated (log ++ more) h
+pub created_still : (log more : List Event) (h : Handle) → IsCreated log h → IsCreated (log ++ more) h
 created_still log more h is = list_any-append (λ (e : Event). creates e.what h) log more ∙ ap (λ b. b || list_any (λ (e : Event). creates e.what h) more) is
 
 -- what a log finds has an entry, and so it was created

@@ -42,14 +42,14 @@ module _ (t : Table) (old new : Seat) (Did : List What → Type 0) (Why : List E
   log_is : seen new ≡ seen old ++ log_of e.window
   log_is = ap log_of e.whole ∙ log-append (history old) e.window
 
-  added : mine (seen new) (numbers new) ≡ mine (seen old) (numbers old) ++ map (by old.number) shown
+  pub added : mine (seen new) (numbers new) ≡ mine (seen old) (numbers old) ++ map (by old.number) shown
   added = ap (mine (seen new)) e.keeps.numbers ∙ ap (λ l. mine l (numbers old)) log_is ∙ mine-append (seen old) (log_of e.window) (numbers old)
       ∙ ap (λ l. mine (seen old) (numbers old) ++ l) (seen_more (numbers old) old.number e.window shown e.own is)
 
-  gained : (h : Handle) → gains (mine (seen new) (numbers new)) h ≡ gains (mine (seen old) (numbers old)) h + gains (map (by old.number) shown) h
+  pub gained : (h : Handle) → gains (mine (seen new) (numbers new)) h ≡ gains (mine (seen old) (numbers old)) h + gains (map (by old.number) shown) h
   gained h = ap (λ l. gains l h) added ∙ sum_by-append (λ (x : Event). cond (is_gain x.what h) 1 0) (mine (seen old) (numbers old)) (map (by old.number) shown)
 
-  lost : (h : Handle) → losses (mine (seen new) (numbers new)) h ≡ losses (mine (seen old) (numbers old)) h + losses (map (by old.number) shown) h
+  pub lost : (h : Handle) → losses (mine (seen new) (numbers new)) h ≡ losses (mine (seen old) (numbers old)) h + losses (map (by old.number) shown) h
   lost h = ap (λ l. losses l h) added ∙ sum_by-append (λ (x : Event). cond (is_loss x.what h) 1 0) (mine (seen old) (numbers old)) (map (by old.number) shown)
 
   module _ (none : (h : Handle) → losses (map (by old.number) shown) h ≡ 0) where

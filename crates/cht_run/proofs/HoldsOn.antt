@@ -78,7 +78,7 @@ pub record IsJoin (old other new : Seat) : Type 0 where
   pub second : Follows (numbers other) (history other) (history new)
 
 module _ (old other new : Seat) (j : IsJoin old other new) where
-  counted : (p : Event → Bool) → count_by p (mine (seen new) (numbers new)) ≡ count_by p (mine (seen old) (numbers old)) + count_by p (mine (seen other) (numbers other))
+  pub counted : (p : Event → Bool) → count_by p (mine (seen new) (numbers new)) ≡ count_by p (mine (seen old) (numbers old)) + count_by p (mine (seen other) (numbers other))
   counted p =
       ap (λ l. count_by p (mine (seen new) l)) j.numbers_are ∙ count_both p (numbers old) (numbers other) (seen new) j.apart
       ∙ (λ i. count_by p (mine_stays (numbers old) (history old) (history new) j.first i) + count_by p (mine_stays (numbers other) (history other) (history new) j.second i))

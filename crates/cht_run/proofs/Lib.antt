@@ -58,3 +58,5 @@ pub mod DeadUnlinked
 pub mod HeldOnce
 pub mod HoldsOn
 pub mod Gives
+pub mod SeenAfter
+pub mod Accounts

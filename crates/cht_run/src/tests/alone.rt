@@ -4,15 +4,6 @@ use crate::change::{TryDrop, TryPermanent};
 use crate::intern::TryIntern;
 use crate::statistics::Statistics;
 
-/// A table of eight slots and eight buckets, which can grow once.
-static WIDE: Shape = Shape {
-    slots: 8,
-    text_words: 1,
-    min_level: 3,
-    max_level: 4,
-    seats: 4,
-};
-
 /// The numbers of such a table with no text.
 static NONE: Statistics = Statistics {
     level: 3,
@@ -73,6 +64,27 @@ fn statistics_part_permanent_texts(rt: HostRuntime) -> Result<(), Fail> {
         ..NONE
     };
     assert!(rt; cht.statistics(&mut seat) == two);
+    cht.close(seat);
+    Ok(())
+}
+
+#[test]
+fn an_intern_passes_the_nodes_of_its_bucket(rt: HostRuntime) -> Result<(), Fail> {
+    let Ok((cht, mut seat)) = Cht::make(rt.alloc(), Kind::Counted, WIDE, 0) else {
+        panic!(rt; "there is memory for a small table")
+    };
+    assert!(rt;
+        cht.try_intern(&mut seat, b"y") == TryIntern::Created(first_in(0)) && seat.passed() == 0
+    );
+    assert!(rt;
+        cht.try_intern(&mut seat, b"q") == TryIntern::Created(first_in(1)) && seat.passed() == 1
+    );
+    assert!(rt;
+        cht.try_intern(&mut seat, b"i") == TryIntern::Created(first_in(2)) && seat.passed() == 2
+    );
+    assert!(rt;
+        cht.try_intern(&mut seat, b"a") == TryIntern::Created(first_in(3)) && seat.passed() == 3
+    );
     cht.close(seat);
     Ok(())
 }

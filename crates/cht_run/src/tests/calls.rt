@@ -9,14 +9,6 @@ use crate::intern::{TryIntern, TryInternWeak};
 use crate::lookup::{TryFind, TryLookup};
 use intern_log::Handle;
 
-/// The handle of the first entry in a slot.
-fn first_in(slot: u32) -> Handle {
-    Handle {
-        slot,
-        generation: 0,
-    }
-}
-
 #[test]
 fn a_seat_interns_and_looks_up(rt: HostRuntime) -> Result<(), Fail> {
     let Ok((cht, mut seat)) = Cht::make(rt.alloc(), Kind::Counted, SMALL, 6) else {

@@ -23,8 +23,8 @@ fn faults_come_in_their_order(rt: HostRuntime) {
     );
     assert!(rt;
         matches!(
-            Cht::make(rt.alloc(), Kind::Weak, SMALL, 7),
-            Err(MakeFault::BadCounter { counter: 7 })
+            Cht::make(rt.alloc(), Kind::Weak, WIDE, 3),
+            Err(MakeFault::BadCounter { counter: 3 })
         )
     );
     let late = (1 << 48) + 2;

@@ -22,3 +22,18 @@ fn seats_are_split_until_none_is_left(rt: HostRuntime) -> Result<(), Fail> {
     assert!(rt; seat.number() == 0);
     Ok(())
 }
+
+#[test]
+fn one_seat_splits_until_none_is_left(rt: HostRuntime) -> Result<(), Fail> {
+    let Ok((cht, mut seat)) = Cht::make(rt.alloc(), Kind::Counted, WIDE, 0) else {
+        panic!(rt; "there is memory for a small table")
+    };
+    for number in 1..4 {
+        let Ok(other) = cht.split(&mut seat) else {
+            panic!(rt; "there are four seats")
+        };
+        assert!(rt; other.number() == number);
+    }
+    assert!(rt; cht.split(&mut seat).is_err_and(|fault| fault == SeatsSpent));
+    Ok(())
+}

@@ -7,16 +7,7 @@ ghost use Rattle.cht_run.specs.Seats.{numbers, kids, IsOf};
 use super::*;
 use crate::intern_wait::{Interned, InternedWeak};
 use crate::retry::{Lookup, Released};
-use intern_log::Handle;
 use std::sync::Wait;
-
-/// The handle of the first entry in a slot.
-fn first_in(slot: u32) -> Handle {
-    Handle {
-        slot,
-        generation: 0,
-    }
-}
 
 #[test]
 fn a_seat_interns_and_lets_go(rt: HostRuntime) -> Result<(), Fail> {

@@ -1,12 +1,10 @@
-//! What works, graces and sweeps come to, and what is read of a handle.
+//! What works and sweeps come to, and what is read of a handle.
 ghost use Rattle.call_machine.specs.declared.work.Work.{Work as Working};
 ghost use Rattle.cht_run.specs.Ends.{HasNothing};
-ghost use Rattle.cht_run.specs.Graces.{IsGraceOf};
 ghost use Rattle.cht_run.specs.Seats.{IsOf};
 ghost use Rattle.cht_run.specs.Works.{IsWorkOf};
 
 use super::*;
-use crate::graces::{BeganGrace, Grace, PolledGrace};
 use crate::intern::TryInternWeak;
 use crate::intern_wait::Interned;
 use crate::read::TextOf;
@@ -153,38 +151,6 @@ fn a_shrink_is_polled(rt: HostRuntime) -> Result<(), Fail> {
             panic!(rt; "the table can shrink")
         }
     }
-    Ok(())
-}
-
-/// Polls a grace until it is over.
-fn end_grace<R: Wait>(rt: &R, cht: &Cht, seat: &mut Seat, grace: Grace)
-    requires of { IsOf cht.now seat.old }
-    requires grace { IsGraceOf cht.now.origin.table grace seat.old }
-    ensures of { IsOf cht.now seat.new }
-{
-    let mut grace = grace;
-    for _ in rt.forever() {
-        grace = match cht.poll_grace(seat, grace) {
-            PolledGrace::Ready => return,
-            PolledGrace::Pending {
-                grace,
-                seat: _number,
-            } => grace,
-        };
-    }
-    unreachable!()
-}
-
-#[test]
-fn a_grace_is_polled(rt: HostRuntime) -> Result<(), Fail> {
-    let Ok((cht, mut seat)) = Cht::make(rt.alloc(), Kind::Counted, SMALL, 6) else {
-        panic!(rt; "there is memory for a small table")
-    };
-    match cht.begin_grace(&mut seat) {
-        BeganGrace::Begun(grace) => end_grace(&rt, &cht, &mut seat, grace),
-        BeganGrace::Spent { .. } => panic!(rt; "the counter is small"),
-    }
-    assert!(rt; cht.level(&mut seat) == 1);
     Ok(())
 }
 
