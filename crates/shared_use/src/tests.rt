@@ -1,10 +1,9 @@
 //! Tests of two threads that intern the same texts.
-ghost use Rattle.std.specs.Prelude.{◌≡◌, IfOk, length, vec_len};
-
 use super::*;
 use atomic_step::Shape;
 use intern_log::Kind;
 use std::alloc::{AllocError, Global};
+use std::process::Abort;
 use std::test::Fail;
 
 /// A table with room for more texts than a test has.
@@ -34,8 +33,21 @@ fn hundred_bytes() -> [u8; 100] {
     bytes
 }
 
+/// Whether a text has a handle.
+fn has_some(answers: &[Option<Handle>]) -> bool {
+    answers.iter().any(|answer| answer.is_some())
+}
+
+/// Whether no two texts have one answer.
+fn differ(answers: &[Option<Handle>]) -> bool {
+    answers.iter().enumerate().all(|(i, answer)| answers
+        .iter()
+        .take(i)
+        .all(|earlier| earlier != answer))
+}
+
 /// What two threads have for the same texts, in a table that is made for them.
-fn by_two<R: Threads + Wait + Sync>(
+fn by_two<R: Threads + Wait + Abort + Sync>(
     rt: &R,
     alloc: Global,
     shape: Shape,
@@ -44,11 +56,10 @@ fn by_two<R: Threads + Wait + Sync>(
     let mine = vec![in alloc; None; texts.len()]?;
     let theirs = vec![in alloc; None; texts.len()]?;
     let Ok((cht, mut seat)) = Cht::make(alloc, Kind::Counted, shape, 6) else {
-        return Ok((mine, theirs));
+        panic!(rt; "there is memory for a table")
     };
     let Ok(other) = cht.split(&mut seat) else {
-        cht.close(seat);
-        return Ok((mine, theirs));
+        panic!(rt; "there are two seats")
     };
     let (seat, mine, theirs) = intern_by_two(rt, &cht, seat, other, texts, mine, theirs);
     cht.close(seat);
@@ -64,6 +75,7 @@ fn two_threads_have_one_handle_for_each_text(rt: HostRuntime) -> Result<(), Fail
     assert!(rt; mine == theirs);
     assert!(rt; mine.len() == 100);
     assert!(rt; mine.iter().all(|answer| answer.is_some()));
+    assert!(rt; differ(mine.as_slice()));
     Ok(())
 }
 
