@@ -19,28 +19,32 @@ pub record MayIntern (cht : Cht) (seat : Seat) : Type 0 where
   pub counted : cht.origin.table.kind ≡ Counted
   pub nothing : HasNothing seat
 
--- the text was absent at a place of a part of the log, and each slot was taken at one
-abbrev pub WasFull : Table → List ℕ → List Event → Type 0
-WasFull t text log = (before window rest : List Event) × (log ≡ (before ++ window) ++ rest) × FoundNoSlot t text before window
+-- a seat has seen all that it had seen, and then more
+abbrev pub HasSeenMore : Seat → Seat → Type 0
+HasSeenMore old new = (more : List Event) × (seen new ≡ seen old ++ more)
+
+-- in a part of the log that came after these events, the text was absent at a place, and each slot was taken at one
+abbrev pub WasFull : Table → List Event → List ℕ → List Event → Type 0
+WasFull t began text log = (more window rest : List Event) × (log ≡ ((began ++ more) ++ window) ++ rest) × FoundNoSlot t text (began ++ more) window
 
 -- what a seat has for a text: a handle that it holds and that was given for the text; or none, where the text is longer than a slot has room for, or
--- was absent while each slot was taken
-abbrev pub IsAnswer : Cht → Seat → List ℕ → Option Handle → Type 0
-IsAnswer cht seat text (Some h) = Holds seat text h
-IsAnswer cht seat text None = (is_too_long cht.origin.table.shape text ≡ true) ⊎ WasFull cht.origin.table text (seen seat)
+-- was absent while each slot was taken, after these events
+abbrev pub IsAnswer : Cht → List Event → Seat → List ℕ → Option Handle → Type 0
+IsAnswer cht began seat text (Some h) = Holds seat text h
+IsAnswer cht began seat text None = (is_too_long cht.origin.table.shape text ≡ true) ⊎ WasFull cht.origin.table began text (seen seat)
 
 -- what one seat has another one has
 abbrev pub StillAnswers : Cht → Seat → Seat → Type 0
-StillAnswers cht old new = (text : List ℕ) (answer : Option Handle) → IsAnswer cht old text answer → IsAnswer cht new text answer
+StillAnswers cht old new = (began : List Event) (text : List ℕ) (answer : Option Handle) → IsAnswer cht began old text answer → IsAnswer cht began new text answer
 
 -- each of the first answers is what the seat has for the text at its place
-abbrev pub AreFirstAnswers : Cht → Seat → ℕ → List (List ℕ) → List (Option Handle) → Type 0
-AreFirstAnswers cht seat many texts answers = (i : ℕ) → i < many → IsAnswer cht seat (get_or texts i []) (get_or answers i None)
+abbrev pub AreFirstAnswers : Cht → List Event → Seat → ℕ → List (List ℕ) → List (Option Handle) → Type 0
+AreFirstAnswers cht began seat many texts answers = (i : ℕ) → i < many → IsAnswer cht began seat (get_or texts i []) (get_or answers i None)
 
 -- there is one answer for each text, and it is what the seat has for it
-pub record AreAnswers (cht : Cht) (seat : Seat) (texts : List (List ℕ)) (answers : List (Option Handle)) : Type 0 where
+pub record AreAnswers (cht : Cht) (began : List Event) (seat : Seat) (texts : List (List ℕ)) (answers : List (Option Handle)) : Type 0 where
   pub one_each : length answers ≡ length texts
-  pub each : AreFirstAnswers cht seat (length texts) texts answers
+  pub each : AreFirstAnswers cht began seat (length texts) texts answers
 
 -- where two threads have a handle at one place, it is the same one
 abbrev pub AreOne : List (Option Handle) → List (Option Handle) → Type 0

@@ -7,7 +7,7 @@ ghost use Rattle.intern_log.specs.Short.{IsShort};
 ghost use Rattle.cht_run.specs.Begins.{HasLedger};
 ghost use Rattle.cht_run.specs.Ended.{Keeps};
 ghost use Rattle.cht_run.specs.Seats.{sight, seen, kids};
-ghost use Rattle.shared_use.specs.Shared.{MayIntern, IsAnswer, StillAnswers, AreAnswers, AreOne, IsBoth};
+ghost use Rattle.shared_use.specs.Shared.{MayIntern, HasSeenMore, IsAnswer, StillAnswers, AreAnswers, AreOne, IsBoth};
 
 use cht_run::{Cht, Interned, Seat};
 use intern_log::Handle;
@@ -20,7 +20,8 @@ fn intern_one<R: Wait>(rt: &R, cht: &Cht, seat: &mut Seat, text: &[u8]) -> Optio
     requires may { MayIntern cht.now seat.old }
     ensures may { MayIntern cht.now seat.new }
     ensures keeps { Keeps seat.old seat.new }
-    ensures answer { IsAnswer cht.now seat.new text.now result }
+    ensures answer { IsAnswer cht.now (seen seat.old) seat.new text.now result }
+    ensures more { HasSeenMore seat.old seat.new }
     ensures still { StillAnswers cht.now seat.old seat.new }
 {
     match cht.intern(rt, seat, text) {
@@ -42,7 +43,7 @@ fn intern_all<R: Wait>(
     requires room { length answers.items ≡ length texts.now }
     ensures may { MayIntern cht.now result.0 }
     ensures keeps { Keeps seat result.0 }
-    ensures answers { AreAnswers cht.now result.0 (map (λ text. text.now) texts.now) result.1.items }
+    ensures answers { AreAnswers cht.now (seen seat) result.0 (map (λ text. text.now) texts.now) result.1.items }
     ensures ledger { HasLedger (sight result.0) }
 {
     for i in 0..texts.len() {
@@ -57,7 +58,7 @@ fn intern_all<R: Wait>(
 /// has the holds of both.
 ///
 /// An answer with a handle is one that was given for the text, and the seat holds it. A text has none only where it
-/// is longer than a slot has room for, or where it was absent and each slot was taken, at some moment.
+/// is longer than a slot has room for, or where it was absent and each slot was taken, at some moment of the call.
 /// Where both threads have a handle for a text, it is the same one. That is said as long as fewer than 2^47 entries
 /// were ever made in the table: then no generation of a slot has come round.
 pub fn intern_by_two<R: Threads + Wait + Sync>(
@@ -74,8 +75,8 @@ pub fn intern_by_two<R: Threads + Wait + Sync>(
     requires room { (length mine.items ≡ length texts.now) × (length theirs.items ≡ length texts.now) }
     ensures may { MayIntern cht.now result.0 }
     ensures both { IsBoth seat other result.0 }
-    ensures mine { AreAnswers cht.now result.0 (map (λ text. text.now) texts.now) result.1.items }
-    ensures theirs { AreAnswers cht.now result.0 (map (λ text. text.now) texts.now) result.2.items }
+    ensures mine { AreAnswers cht.now (seen seat) result.0 (map (λ text. text.now) texts.now) result.1.items }
+    ensures theirs { AreAnswers cht.now (seen other) result.0 (map (λ text. text.now) texts.now) result.2.items }
     ensures one { IsShort (seen result.0) → AreOne result.1.items result.2.items }
 {
     let ((mut seat, mine), (other, theirs)) = std::thread::join(

@@ -1,5 +1,5 @@
 use Rattle.std.proofs.Common.{inl}
-use Rattle.shared_use.proofs.Shared.{answers_still, full_is_answer}
+use Rattle.shared_use.proofs.Shared.{sees_more, answers_still, full_is_answer}
 use Rattle.shared_use.proofs.intern_one.Goals as goal
 
 pub returns-in-TooLong-clause-answer : goal.returns-in-TooLong-clause-answer
@@ -19,3 +19,15 @@ returns-in-Created-clause-still g c = answers_still c.args.cht.now c.args.seat.n
 
 pub returns-in-Created-2-clause-still : goal.returns-in-Created-2-clause-still
 returns-in-Created-2-clause-still g c = answers_still c.args.cht.now c.args.seat.now c.intern.new.seat c.args.text.now c.intern.result c.intern.ensures.ended
+
+pub returns-in-TooLong-clause-more : goal.returns-in-TooLong-clause-more
+returns-in-TooLong-clause-more g c = sees_more c.args.cht.now c.args.seat.now c.intern.new.seat c.args.text.now c.intern.result c.intern.ensures.ended
+
+pub returns-in-NoSlot-clause-more : goal.returns-in-NoSlot-clause-more
+returns-in-NoSlot-clause-more g c = sees_more c.args.cht.now c.args.seat.now c.intern.new.seat c.args.text.now c.intern.result c.intern.ensures.ended
+
+pub returns-in-Created-clause-more : goal.returns-in-Created-clause-more
+returns-in-Created-clause-more g c = sees_more c.args.cht.now c.args.seat.now c.intern.new.seat c.args.text.now c.intern.result c.intern.ensures.ended
+
+pub returns-in-Created-2-clause-more : goal.returns-in-Created-2-clause-more
+returns-in-Created-2-clause-more g c = sees_more c.args.cht.now c.args.seat.now c.intern.new.seat c.args.text.now c.intern.result c.intern.ensures.ended
