@@ -50,6 +50,7 @@ fn intern_all<R: Wait>(
         let answer = intern_one(rt, cht, &mut seat, texts[i]);
         answers[i] = answer;
     }
+    // By this load the seat is known to have let go of nothing that it had not had.
     cht.level(&mut seat);
     (seat, answers)
 }
@@ -85,6 +86,7 @@ pub fn intern_by_two<R: Threads + Wait + Sync>(
         || intern_all(rt, cht, other, texts, theirs),
     );
     cht.join(&mut seat, other);
+    // By this load each handle that the seat holds is known to be live.
     cht.level(&mut seat);
     (seat, mine, theirs)
 }

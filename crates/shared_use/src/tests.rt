@@ -38,6 +38,11 @@ fn has_some(answers: &[Option<Handle>]) -> bool {
     answers.iter().any(|answer| answer.is_some())
 }
 
+/// Whether two lists have one handle wherever both have one.
+fn agree(mine: &[Option<Handle>], theirs: &[Option<Handle>]) -> bool {
+    mine.iter().zip(theirs).all(|(own, other)| own.is_none() || other.is_none() || own == other)
+}
+
 /// Whether no two texts have one answer.
 fn differ(answers: &[Option<Handle>]) -> bool {
     answers.iter().enumerate().all(|(i, answer)| answers
@@ -97,10 +102,6 @@ fn no_more_texts_have_handles_than_there_are_slots(rt: HostRuntime) -> Result<()
     assert!(rt; mine.len() == 6 && theirs.len() == 6);
     assert!(rt; mine.iter().filter(|answer| answer.is_some()).count() <= 4);
     assert!(rt; theirs.iter().filter(|answer| answer.is_some()).count() <= 4);
-    assert!(rt;
-        mine.iter().zip(&theirs).all(|(own, other)| own.is_none()
-            || other.is_none()
-            || own == other)
-    );
+    assert!(rt; agree(mine.as_slice(), theirs.as_slice()));
     Ok(())
 }
