@@ -176,10 +176,13 @@ class Check:
             if f"`{name}`" not in text:
                 self.finding(f"docs/ARCHITECTURE.md: `{name}` is not named")
 
-    def check_example(self):
-        source = read("crates/first_use/src/lib.rt").split("\n#[cfg(test)]")[0]
-        if f"```rust\n{source}```\n" not in read("README.md"):
+    def check_examples(self):
+        whole = read("crates/first_use/src/lib.rt").split("\n#[cfg(test)]")[0]
+        if f"```rust\n{whole}```\n" not in read("README.md"):
             self.finding("README.md: the example is not crates/first_use/src/lib.rt, letter by letter, up to its tests")
+        last = read("crates/shared_use/src/lib.rt").split("\n#[cfg(test)]")[0].split("\n\n")[-1]
+        if f"```rust\n{last}```\n" not in read("README.md"):
+            self.finding("README.md: the example is not the last item of crates/shared_use/src/lib.rt, letter by letter")
 
 
 if __name__ == "__main__":
@@ -187,6 +190,6 @@ if __name__ == "__main__":
     check.check_claims()
     check.check_rows("README.md")
     check.check_architecture()
-    check.check_example()
+    check.check_examples()
     print(f"claims: {check.findings} findings")
     sys.exit(1 if check.findings else 0)

@@ -1,5 +1,5 @@
 -- A seat loads a word that no call wants; and the table is closed by a seat from which all others have come back.
-use Rattle.std.proofs.Common.{◌≡◌, ◌≢◌, ⊎_elim, ℕ, true, false, List, [], ◌∷◌, ◌++◌, set, get_or, Option, Some, inl, inr, refl, sym, ap, subst, ◌∙◌}
+use Rattle.std.proofs.Common.{◌≡◌, ◌≢◌, ⊎_elim, ℕ, ◌+◌, ◌≤◌, true, false, List, [], ◌∷◌, ◌++◌, set, get_or, Option, Some, inl, inr, refl, sym, ap, subst, ◌∙◌, arith}
 use Rattle.std.proofs.lemmas.List.{append-nil, set-get_or}
 use Rattle.std.proofs.lemmas.List.Elements.{All-nil, All-cons, All-head, All-tail}
 use Rattle.std.specs.List.{All}
@@ -26,6 +26,9 @@ use Rattle.cht_run.proofs.HeldLive.{held_are_live}
 use Rattle.cht_run.proofs.Histories.{out_since, nothing_since, all_by}
 use Rattle.cht_run.proofs.Steps.{Seats, part_of, alone_has}
 use Rattle.cht_run.proofs.Views.{no_earlier}
+
+no_more : (left lost had : ℕ) → left + lost ≡ had → lost ≤ had
+no_more left lost had is = omega arith
 
 module _ (o : Origin) (s : Seats) (k : Kept o s) (id : ℕ) (v : Sight) (at : get_elem? s.views id ≡ some v) (is : is_seat v ≡ true) where
   abbrev m : Memory
@@ -113,6 +116,7 @@ module _ (o : Origin) (s : Seats) (k : Kept o s) (id : ℕ) (v : Sight) (at : ge
       orderly = k.orderly;
       numbered = k.numbered;
     };
+    ledger = λ h. no_more _ _ _ (k.inv.holds.own v.number (view_of v) h (part_of o m k.seat k.history v fit is).at);
     live = λ counted. held_are_live o.table m k.seat (log_of k.history) v.number (view_of v) k.inv (part_of o m k.seat k.history v fit is).at counted;
     alone = none_since;
     only = only_seat;

@@ -9,6 +9,7 @@ use Rattle.cht_core.specs.View.{View}
 use Rattle.cht_run.specs.declared.sight.Entry.{Entry}
 use Rattle.cht_run.specs.declared.sight.Origin.{Origin}
 use Rattle.cht_run.specs.declared.sight.Sight.{Sight}
+use Rattle.cht_run.specs.Begins.{HasLedger}
 use Rattle.cht_run.specs.History.{log_of, HasSeen, NoneBy}
 use Rattle.cht_run.specs.Holds.{HoldLive}
 use Rattle.cht_run.specs.Rule.{view_of}
@@ -18,7 +19,7 @@ abbrev pub seeing : Sight → List Entry → List ℕ → Sight
 seeing v history words = record v { history = history; earlier = []; words = Some words }
 
 -- a word was found at an index: the words were those of a table with this log; all that came since was seen, and nothing of it is by the seat,
--- which in a counted table holds live handles
+-- which has let go of nothing that it had not had, and in a counted table holds live handles
 pub record Looked (o : Origin) (index : ℕ) (v : Sight) (word : ℕ) (w : Sight) : Type 0 where
   pub between : List Entry
   pub none : NoneBy v.numbers between
@@ -29,6 +30,7 @@ pub record Looked (o : Origin) (index : ℕ) (v : Sight) (word : ℕ) (w : Sight
   pub seat : ℕ → Option View
   pub inv : Inv o.table (memory_of o.table.shape words) seat (log_of w.history)
   pub sees : HasSeen o.table w.history
+  pub ledger : HasLedger w
   pub live : o.table.kind ≡ Counted → HoldLive (log_of w.history) v.numbers
   -- a seat to which all others have come back has seen all, is the only one, and finds the words that it has found before
   pub alone : v.kids ≡ [] → is_among v.numbers 0 ≡ true → between ≡ []

@@ -2,6 +2,7 @@
 ghost use Rattle.std.specs.Prelude.{◌≡◌, ◌<◌, []};
 ghost use Rattle.intern_log.specs.declared.event.Kind.TheVariants.{Counted};
 ghost use Rattle.table_shape.specs.Shape.{words_of};
+ghost use Rattle.cht_run.specs.Begins.{HasLedger};
 ghost use Rattle.cht_run.specs.Ended.{Ended, Always, Only};
 ghost use Rattle.cht_run.specs.Ends.{Stays, level_in};
 ghost use Rattle.cht_run.specs.History.{HasSeen, Follows};
@@ -60,7 +61,8 @@ impl Cht {
 
     /// The level of the table at the end of what the seat has then seen.
     ///
-    /// The seat has then seen all that came before the load. In a counted table each handle that it holds is live.
+    /// The seat has then seen all that came before the load. It has let go of nothing that it had not had, and in a
+    /// counted table each handle that it holds is live.
     pub fn level(&self, seat: &mut Seat) -> u8
         requires of { IsOf self.now seat.old }
         ensures of { IsOf self.now seat.new }
@@ -69,6 +71,7 @@ impl Cht {
         ensures value { result ≡ level_in self.now.origin.table seat.new }
         ensures follows { Follows (numbers seat.old) (history seat.old) (history seat.new) }
         ensures sees { HasSeen self.now.origin.table (history seat.new) }
+        ensures ledger { HasLedger (sight seat.new) }
         ensures live { self.now.origin.table.kind ≡ Counted → HoldLive (seen seat.new) (numbers seat.new) }
     {
         let index = self.origin.table.shape.index(Place::Level) as usize;

@@ -15,6 +15,9 @@ returns-clause-follows c = looked_follows c.args.self.now.origin c.args.seat.now
 pub returns-clause-sees : goal.returns-clause-sees
 returns-clause-sees c = c.look.ensures.told.sees
 
+pub returns-clause-ledger : goal.returns-clause-ledger
+returns-clause-ledger c = c.look.ensures.told.ledger
+
 pub returns-clause-live : goal.returns-clause-live
 returns-clause-live c = λ counted.
     subst (λ (numbers : List ℕ). HoldLive (seen c.look.new.seat) numbers) (sym (ap (λ (v : Sight). v.numbers) c.look.ensures.told.after)) (c.look.ensures.told.live counted)
