@@ -1,5 +1,5 @@
 -- A call of a seat has come to its end.
-use Rattle.std.proofs.Common.{◌≡◌, ℕ, true, List, [], ◌∷◌, ◌++◌, map, Option, Some, refl, inr, sym, ap, subst, ◌∙◌}
+use Rattle.std.proofs.Common.{◌≡◌, ◌⊎◌, ℕ, true, List, [], ◌∷◌, ◌++◌, map, Option, Some, refl, inr, sym, ap, subst, ◌∙◌}
 use Rattle.std.proofs.lemmas.List.{append-nil, append_cancel_left}
 use Rattle.intern_log.specs.declared.event.Event.{Event}
 use Rattle.intern_log.specs.declared.event.What.{What}
@@ -24,7 +24,7 @@ use Rattle.cht_run.specs.Calls.{Went, at_stage, At}
 use Rattle.cht_run.specs.Changes.{Made}
 use Rattle.cht_run.specs.Ended.{Ended, KeepsWork, Only}
 use Rattle.cht_run.specs.History.{log_of, HasSeen, entries_by, told_by}
-use Rattle.cht_run.specs.Seats.{sight, history, seen, numbers}
+use Rattle.cht_run.specs.Seats.{Raw, sight, history, seen, numbers}
 use Rattle.cht_run.proofs.Goes.{went_answered}
 use Rattle.cht_run.proofs.Histories.{log-append}
 
@@ -86,3 +86,16 @@ module _ (cht : Cht) (old new : Seat) (c : Call) (r : Request) (w : Along) (a : 
   -- and what its seat has unfinished is as it was
   pub works_stay : KeepsWork old new
   works_stay = record { work = ap (λ x. (own_at x).work) went.is; grace = ap (λ x. (own_at x).grace) went.is }
+
+-- the cursor of the seat, and what its walk has passed, are nothing to how its call has ended
+pub ended_alike : (t : Table) (old new other : Seat) (Did : List What → Type 0) (Why : List Event → List Event → Type 0) → other.raw ≡ new.raw → other.number ≡ new.number → Ended t old new Did Why → Ended t old other Did Why
+ended_alike t old new other Did Why raw number e = record {
+  keeps = record { number = number ∙ e.keeps.number; numbers = ap (λ (r : Raw). r.me.0.numbers) raw ∙ e.keeps.numbers; kids = ap (λ (r : Raw). r.me.0.kids) raw ∙ e.keeps.kids };
+  window = e.window;
+  whole = ap (λ (r : Raw). r.me.0.history) raw ∙ e.whole;
+  own = e.own;
+  did = e.did;
+  alone = e.alone;
+  sees = subst (λ (r : Raw). (e.window ≡ []) ⊎ HasSeen t r.me.0.history) (sym raw) e.sees;
+  why = e.why;
+}

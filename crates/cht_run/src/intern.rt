@@ -1,5 +1,5 @@
 //! Interns that try once.
-ghost use Rattle.std.specs.Prelude.{◌≡◌, ◌↔◌, true, false, None, IfSome};
+ghost use Rattle.std.specs.Prelude.{◌≡◌, ◌≤◌, ◌↔◌, true, false, None, IfSome};
 ghost use Rattle.intern_log.specs.declared.event.Kind.TheVariants.{Counted, Weak};
 ghost use Rattle.call_machine.specs.declared.leave.LeaveStage.TheVariants as leave;
 ghost use Rattle.call_machine.specs.declared.leave.Then.TheVariants as next;
@@ -129,6 +129,7 @@ impl Cht {
         ensures works { KeepsWork seat.old seat.new }
         ensures only { IsInternAnswer self.now.origin.table.kind result }
         ensures walked { Walked self.now goal.Intern text.now seat.old seat.new result }
+        ensures few { seat.new.passed ≤ self.now.origin.table.shape.slots }
     {
         let request = self.seek(seat, Goal::Intern, text);
         let along = Along {
@@ -159,8 +160,10 @@ impl Cht {
         ensures holds { InternHolds seat.new result }
         ensures works { KeepsWork seat.old seat.new }
         ensures too_long { (result ≡ TryIntern.TooLong) ↔ (texts.is_too_long self.now.origin.table.shape text.now ≡ true) }
+        ensures few { seat.new.passed ≤ self.now.origin.table.shape.slots }
     {
         if is_too_long(self, text) {
+            seat.passed = 0;
             return TryIntern::TooLong;
         }
         match self.intern_once(seat, text) {
@@ -184,8 +187,10 @@ impl Cht {
         ensures holds { InternWeakHolds seat.new result }
         ensures works { KeepsWork seat.old seat.new }
         ensures too_long { (result ≡ TryInternWeak.TooLong) ↔ (texts.is_too_long self.now.origin.table.shape text.now ≡ true) }
+        ensures few { seat.new.passed ≤ self.now.origin.table.shape.slots }
     {
         if is_too_long(self, text) {
+            seat.passed = 0;
             return TryInternWeak::TooLong;
         }
         match self.intern_once(seat, text) {

@@ -1,5 +1,5 @@
 //! Interns that try until they have an answer.
-ghost use Rattle.std.specs.Prelude.{◌≡◌, ◌↔◌, true, false, None, IfSome};
+ghost use Rattle.std.specs.Prelude.{◌≡◌, ◌≤◌, ◌↔◌, true, false, None, IfSome};
 ghost use Rattle.intern_log.specs.declared.event.Kind.TheVariants.{Counted, Weak};
 ghost use Rattle.call_machine.specs.declared.enter.EnterStage.TheVariants as enter;
 ghost use Rattle.call_machine.specs.declared.find.FindStage.TheVariants as find;
@@ -211,6 +211,7 @@ impl Cht {
         ensures works { KeepsWork seat.old seat.new }
         ensures only { IsWaitAnswer self.now.origin.table.kind result }
         ensures walked { Walked self.now goal.InternWait text.now seat.old seat.new result }
+        ensures few { seat.new.passed ≤ self.now.origin.table.shape.slots }
     {
         let request = self.seek(seat, Goal::InternWait, text);
         let along = Along {
@@ -243,8 +244,10 @@ impl Cht {
         ensures gives { InternedGives seat.new text.now result }
         ensures works { KeepsWork seat.old seat.new }
         ensures too_long { (result ≡ Interned.TooLong) ↔ (texts.is_too_long self.now.origin.table.shape text.now ≡ true) }
+        ensures few { seat.new.passed ≤ self.now.origin.table.shape.slots }
     {
         if is_too_long(self, text) {
+            seat.passed = 0;
             return Interned::TooLong;
         }
         match self.intern_wait(rt, seat, text) {
@@ -267,8 +270,10 @@ impl Cht {
         ensures holds { InternedWeakHolds seat.new result }
         ensures works { KeepsWork seat.old seat.new }
         ensures too_long { (result ≡ InternedWeak.TooLong) ↔ (texts.is_too_long self.now.origin.table.shape text.now ≡ true) }
+        ensures few { seat.new.passed ≤ self.now.origin.table.shape.slots }
     {
         if is_too_long(self, text) {
+            seat.passed = 0;
             return InternedWeak::TooLong;
         }
         match self.intern_wait(rt, seat, text) {

@@ -32,7 +32,8 @@ impl Seat {
         self.number
     }
 
-    /// How many nodes its last call has passed.
+    /// How many nodes its last look-up or intern has passed since it last began to find the head of its bucket: at
+    /// most as many as there are slots, and none where the text is longer than a slot has room for.
     pub fn passed(&self) -> u32
         ensures value { result ≡ self.now.passed }
     {

@@ -128,6 +128,7 @@ impl Cht {
         ensures works { KeepsWork seat.old seat.new }
         ensures only { IsLookupAnswer self.now.origin.table.kind result }
         ensures walked { Walked self.now goal.Lookup text.now seat.old seat.new result }
+        ensures few { seat.new.passed ≤ self.now.origin.table.shape.slots }
     {
         let request = self.seek(seat, Goal::Lookup, text);
         let along = Along {
@@ -153,6 +154,7 @@ impl Cht {
         ensures ended { Ended self.now.origin.table seat.old seat.new (LooksUp text.now result) (WhyLooksUp seat.old.number text.now result) }
         ensures holds { LookupHolds seat.new result }
         ensures works { KeepsWork seat.old seat.new }
+        ensures few { seat.new.passed ≤ self.now.origin.table.shape.slots }
     {
         if is_too_long(self, text) {
             self.look_too_long(seat, text);
@@ -177,6 +179,7 @@ impl Cht {
         ensures ended { Ended self.now.origin.table seat.old seat.new (Finds text.now result) (WhyFinds text.now result) }
         ensures holds { FindHolds seat.new result }
         ensures works { KeepsWork seat.old seat.new }
+        ensures few { seat.new.passed ≤ self.now.origin.table.shape.slots }
     {
         if is_too_long(self, text) {
             self.look_too_long(seat, text);
@@ -190,15 +193,17 @@ impl Cht {
     }
 
     /// A text that no slot has room for is absent: a word is loaded, so that the seat has seen all that was
-    /// before, and the text had no entry then.
+    /// before, and the text had no entry then. No node is passed.
     fn look_too_long(&self, seat: &mut Seat, text: &[u8])
         requires of { IsOf self.now seat.old }
         requires long { texts.is_too_long self.now.origin.table.shape text.now ≡ true }
         ensures of { IsOf self.now seat.new }
         ensures ended { Ended self.now.origin.table seat.old seat.new (AreOfWalk []) (λ seen window. Somewhere (IsAbsent text.now) seen window) }
         ensures works { KeepsWork seat.old seat.new }
+        ensures none { seat.new.passed ≡ 0 }
     {
         let _text = text;
         self.look(seat, 0);
+        seat.passed = 0;
     }
 }

@@ -1,5 +1,5 @@
 //! Calls that try until no other seat is faster.
-ghost use Rattle.std.specs.Prelude.{◌≡◌, [], ◌∷◌};
+ghost use Rattle.std.specs.Prelude.{◌≡◌, ◌≤◌, [], ◌∷◌};
 ghost use Rattle.intern_log.specs.declared.event.Kind.TheVariants.{Counted};
 ghost use Rattle.intern_log.specs.declared.event.What.TheVariants as what;
 ghost use Rattle.cht_core.specs.Begins.{IsHeld};
@@ -46,6 +46,7 @@ impl Cht {
         ensures ended { Ended self.now.origin.table seat.old seat.new (LooksUpWaiting text.now result) (WhyLooksUpWaiting text.now result) }
         ensures holds { LookupWaitingHolds seat.new result }
         ensures works { KeepsWork seat.old seat.new }
+        ensures few { seat.new.passed ≤ self.now.origin.table.shape.slots }
     {
         let backoff = Backoff::new();
         for _ in rt.forever() {

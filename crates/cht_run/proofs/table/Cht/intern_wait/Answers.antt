@@ -1,6 +1,7 @@
 use Rattle.std.proofs.Common.{refl}
 use Rattle.call_machine.specs.declared.call.Call.TheVariants as call
 use Rattle.call_machine.specs.declared.stage.Goal.TheVariants as goals
+use Rattle.cht_run.proofs.Goes.{passed_few}
 use Rattle.cht_run.proofs.Walking.{walked}
 use Rattle.cht_run.proofs.table.Cht.intern_wait.Goals as goal
 
@@ -8,3 +9,6 @@ pub returns-clause-walked : goal.returns-clause-walked
 returns-clause-walked g c =
     walked c.args.self.now goals.InternWait c.args.text.now (call.InternWait c.seek-request.result.sought.text) c.args.seat.now _ c.seek-request.result c.intern_until-answer.result.0 c.intern_until-answer.result.1
     c.seek-request.ensures.asked refl c.requires.of c.intern_until-answer.ensures.at
+
+pub returns-clause-few : goal.returns-clause-few
+returns-clause-few g c = (passed_few c.args.self.now _ _ _ _ _ _ c.intern_until-answer.ensures.at).0

@@ -35,6 +35,7 @@ returns-in-Hit g c =
       ended = hits t text c.args.seat.now mid new c.loop.invariant.before c.in-Hit.handle (subst (λ (r : TryLookup). Ended t mid new (LooksUp text r) (WhyLooksUp mid.number text r)) c.in-Hit.is c.try_lookup.ensures.ended);
       holds = subst (LookupHolds new) c.in-Hit.is c.try_lookup.ensures.holds;
       works = works_both c.args.seat.now mid new c.loop.invariant.works c.try_lookup.ensures.works;
+      few = c.try_lookup.ensures.few;
     }
 
 pub returns-in-Miss : goal.returns-in-Miss
@@ -48,4 +49,5 @@ returns-in-Miss g c =
       ended = misses t text c.args.seat.now mid new c.loop.invariant.before (subst (λ (r : TryLookup). Ended t mid new (LooksUp text r) (WhyLooksUp mid.number text r)) c.in-Miss.is c.try_lookup.ensures.ended);
       holds = tt;
       works = works_both c.args.seat.now mid new c.loop.invariant.works c.try_lookup.ensures.works;
+      few = c.try_lookup.ensures.few;
     }
