@@ -1,10 +1,10 @@
 //! The calls of a running table by hand, on `AtomicU64`s, with the same atomic steps in the same order.
 //!
-//! Usage: table TASK NAMES LEVEL MOST SEATS THREADS PASSES, as the crate `table_bench`, which has one thread. It prints the same two lines.
+//! Usage: table TASK NAMES LEVEL MOST SEATS THREADS PASSES, as the program of the crate `table_bench`. It prints the same two lines.
+//! It has any shape and any text, and each index into the words is checked.
 use std::sync::atomic::{AtomicU64, Ordering::SeqCst};
 use std::time::Instant;
 
-const PASS: u64 = 1 << 17;
 const COUNTER: u64 = 1;
 const LEVEL: u64 = 3;
 const NEW_LEVEL: u64 = 4;
@@ -85,6 +85,21 @@ impl Text<'_> {
             }
         }
     }
+}
+
+/// What a look-up comes to.
+enum Met {
+    Hit(u64),
+    Miss,
+    Again,
+}
+
+/// What an intern comes to.
+enum Interned {
+    Created(u64),
+    Taken,
+    NoSlot,
+    Again,
 }
 
 impl Table {
@@ -170,9 +185,9 @@ impl Table {
         self.load(slot + 3) == text.meta && (0..text.words()).all(|at| self.load(slot + 4 + at) == text.word(at))
     }
 
-    /// Walks the chain: none at its end, or else whether the entry's count could be raised, and its slot.
+    /// Walks the chain: whether it met an entry whose count it could raise.
     #[inline(always)]
-    fn walk(&self, head: u64, text: &Text) -> Option<(bool, u64)> {
+    fn walk(&self, head: u64, text: &Text) -> Met {
         let mut link = head >> 2;
         while link != 0 {
             let slot = self.slot(link - 1);
@@ -181,31 +196,32 @@ impl Table {
                 let holds = count & 0xffff;
                 if holds != 0 {
                     let more = count + u64::from(holds != 0xffff);
-                    return Some((!self.counted || self.exchange(slot + 2, count, more), link - 1));
+                    let is_raised = !self.counted || self.exchange(slot + 2, count, more);
+                    return if is_raised { Met::Hit(link - 1) } else { Met::Again };
                 }
             }
             link = self.load(slot + 1);
         }
-        None
+        Met::Miss
     }
 
-    fn look_up(&self, seat: &Seat, name: &[u8]) -> Option<u64> {
+    fn look_up(&self, seat: &Seat, name: &[u8]) -> Met {
         let text = Text::of(name);
         let (_, head) = self.enter(seat, text.hash);
         let met = self.walk(head, &text);
         self.leave(seat);
-        met.filter(|met| met.0).map(|met| met.1)
+        met
     }
 
-    /// Claims a slot, fills it, and puts it at the head of its bucket: none where there is no slot or another was faster.
+    /// Claims a slot, fills it, and puts it at the head of its bucket.
     #[inline(always)]
-    fn insert(&self, seat: &mut Seat, text: &Text, at: u64, head: u64) -> Option<u64> {
+    fn insert(&self, seat: &mut Seat, text: &Text, at: u64, head: u64) -> Interned {
         let from = seat.cursor;
         let mut free = from;
         while !self.exchange(self.slot(free), 0, 1) {
             free = if free + 1 == self.slots { 0 } else { free + 1 };
             if free == from {
-                return None;
+                return Interned::NoSlot;
             }
         }
         seat.cursor = if free + 1 == self.slots { 0 } else { free + 1 };
@@ -218,21 +234,21 @@ impl Table {
         self.swap(slot + 1, head >> 2);
         self.swap(slot + 2, count + 1);
         if self.exchange(at, head, (free + 1) << 2) {
-            return Some(free);
+            return Interned::Created(free);
         }
         self.swap(slot + 2, count);
         self.swap(slot, 0);
-        None
+        Interned::Again
     }
 
-    fn intern(&self, seat: &mut Seat, name: &[u8]) -> Option<u64> {
+    fn intern(&self, seat: &mut Seat, name: &[u8]) -> Interned {
         let text = Text::of(name);
         let (at, head) = self.enter(seat, text.hash);
         let met = match self.walk(head, &text) {
-            Some((true, slot)) => Some(slot),
-            Some((false, _)) => None,
-            None if head & 1 == 1 => None,
-            None => self.insert(seat, &text, at, head),
+            Met::Hit(_) => Interned::Taken,
+            Met::Again => Interned::Again,
+            Met::Miss if head & 1 == 1 => Interned::Again,
+            Met::Miss => self.insert(seat, &text, at, head),
         };
         self.leave(seat);
         met
@@ -270,85 +286,128 @@ impl Table {
     }
 }
 
-#[inline(never)]
-fn find(table: &Table, seat: &Seat, names: &[Name]) -> u64 {
-    names.iter().filter(|name| table.look_up(seat, &name[..]).is_some()).count() as u64
+/// With how many names a task was done, and at how many of them another thread was faster.
+#[derive(Clone, Copy, Default)]
+struct Tally {
+    met: u64,
+    lost: u64,
+}
+
+impl Tally {
+    fn plus(self, more: Tally) -> Tally {
+        Tally { met: self.met + more.met, lost: self.lost + more.lost }
+    }
 }
 
 #[inline(never)]
-fn hold(table: &Table, seat: &Seat, names: &[Name]) -> u64 {
-    let mut met = 0;
+fn find(table: &Table, seat: &Seat, names: &[Name]) -> Tally {
+    let met = names.iter().filter(|name| matches!(table.look_up(seat, &name[..]), Met::Hit(_))).count();
+    Tally { met: met as u64, lost: 0 }
+}
+
+#[inline(never)]
+fn take(table: &Table, seat: &Seat, names: &[Name]) -> Tally {
+    let (mut met, mut lost) = (0, 0);
     for name in names {
-        if let Some(slot) = table.look_up(seat, &name[..]) {
-            table.let_go(slot);
-            met += 1;
+        match table.look_up(seat, &name[..]) {
+            Met::Hit(_) => met += 1,
+            Met::Again => lost += 1,
+            Met::Miss => {}
         }
     }
-    met
+    Tally { met: met + lost, lost }
 }
 
 #[inline(never)]
-fn make(table: &Table, seat: &mut Seat, names: &[Name]) -> u64 {
-    let mut met = 0;
+fn hold(table: &Table, seat: &Seat, names: &[Name]) -> Tally {
+    let (mut met, mut lost) = (0, 0);
     for name in names {
-        if let Some(slot) = table.intern(seat, &name[..]) {
-            table.let_go(slot);
-            met += 1;
+        match table.look_up(seat, &name[..]) {
+            Met::Hit(slot) => {
+                table.let_go(slot);
+                met += 1;
+            }
+            Met::Again => lost += 1,
+            Met::Miss => {}
         }
     }
-    met
+    Tally { met: met + lost, lost }
 }
 
-/// What a thread does: the task with each name, so many times over.
-fn again(table: &Table, seat: &mut Seat, task: &str, names: &[Name], rounds: u64) -> u64 {
-    (0..rounds)
-        .map(|_| match task {
-            "find" | "miss" => find(table, seat, names),
-            "hold" => hold(table, seat, names),
-            _ => make(table, seat, names),
-        })
-        .sum()
+#[inline(never)]
+fn make(table: &Table, seat: &mut Seat, names: &[Name]) -> Tally {
+    let (mut met, mut lost) = (0, 0);
+    for name in names {
+        match table.intern(seat, &name[..]) {
+            Interned::Created(slot) => {
+                table.let_go(slot);
+                met += 1;
+            }
+            Interned::Again => lost += 1,
+            Interned::Taken | Interned::NoSlot => {}
+        }
+    }
+    Tally { met: met + lost, lost }
+}
+
+/// Starts with the other threads, and does the task with each name: what came of it, and how long it took.
+fn turn(table: &Table, seat: &mut Seat, task: &str, names: &[Name], came: &AtomicU64, threads: u64) -> (Tally, u128) {
+    came.fetch_add(1, SeqCst);
+    while came.load(SeqCst) < threads {
+        std::hint::spin_loop();
+    }
+    let start = Instant::now();
+    let tally = match task {
+        "find" | "miss" => find(table, seat, names),
+        "take" => take(table, seat, names),
+        "hold" => hold(table, seat, names),
+        _ => make(table, seat, names),
+    };
+    (tally, start.elapsed().as_nanos())
+}
+
+/// All threads do the task: what came of it, and how long it took the one that took longest.
+fn pass(table: &Table, seats: &mut [Seat], task: &str, lists: &[Vec<Name>]) -> (Tally, u128) {
+    let came = &AtomicU64::new(0);
+    let threads = lists.len() as u64;
+    std::thread::scope(|scope| {
+        let mut parts = seats.iter_mut().zip(lists);
+        let own = parts.next();
+        let others: Vec<_> =
+            parts.map(|(seat, list)| scope.spawn(move || turn(table, seat, task, list, came, threads))).collect();
+        let own = own.map(|(seat, list)| turn(table, seat, task, list, came, threads));
+        others
+            .into_iter()
+            .map(|thread| thread.join().expect("a thread ends"))
+            .chain(own)
+            .fold((Tally::default(), 0), |(tally, most), (more, nanos)| (tally.plus(more), most.max(nanos)))
+    })
 }
 
 fn main() {
     let words: Vec<String> = std::env::args().skip(1).collect();
     let number = |at: usize| words[at].parse::<u64>().expect("a number");
     let (task, live, level, most) = (words[0].as_str(), number(1), number(2), number(3));
-    let mut table = Table::new(matches!(task, "hold" | "make"), live * 3, 2, level, most, number(4));
-    let apart = live * 3 / number(4);
-    let mut seats: Vec<Seat> = (0..4).map(|number| Seat { number, cursor: number * apart }).collect();
+    let (seats, threads) = (number(4), number(5));
+    let counted = matches!(task, "take" | "hold" | "make");
+    let mut table = Table::new(counted, live * 3, 2, level, most, seats);
+    let mut seats: Vec<Seat> = (0..threads).map(|number| Seat { number, cursor: number * (live * 3 / seats) }).collect();
     let mut filled = 0;
     for name in names(0, live, 1) {
-        filled += u64::from(table.intern(&mut seats[0], &name).is_some());
+        filled += u64::from(matches!(table.intern(&mut seats[0], &name), Interned::Created(_)));
     }
-    let fresh = task == "miss" || task == "make";
     let part = if task == "make" { live / 4 } else { live };
-    let rounds = if task == "make" || number(5) == 1 { 1 } else { (PASS / part).max(1) };
-    let lists: Vec<Vec<Name>> = (0..4)
-        .map(|at| names(if fresh { live + at * part } else { 0 }, part, 0x6d2b_79f5 + 2 * at))
-        .collect();
-    let (mut met, mut least) = (0, u128::MAX);
+    let first = |at: u64| if matches!(task, "miss" | "make") { live + at * part } else { 0 };
+    let lists: Vec<Vec<Name>> = (0..threads).map(|at| names(first(at), part, 0x6d2b_79f5 + 2 * at)).collect();
+    let (mut tally, mut least) = (Tally::default(), u128::MAX);
     for _ in 0..number(6) {
-        let start = Instant::now();
-        met += if number(5) == 1 {
-            again(&table, &mut seats[0], task, &lists[0], rounds)
-        } else {
-            std::thread::scope(|scope| {
-                let table = &table;
-                let threads: Vec<_> = seats
-                    .iter_mut()
-                    .zip(&lists)
-                    .take(number(5) as usize)
-                    .map(|(seat, list)| scope.spawn(move || again(table, seat, task, list, rounds)))
-                    .collect();
-                threads.into_iter().map(|thread| thread.join().expect("a sum")).sum::<u64>()
-            })
-        };
-        least = least.min(start.elapsed().as_nanos());
+        let (more, nanos) = pass(&table, &mut seats, task, &lists);
+        tally = tally.plus(more);
+        least = least.min(nanos);
         if task == "make" {
             table.clean(level);
         }
     }
-    println!("filled={filled} met={met}");
-    println!("nanos={least} names={}", part * rounds);
+    println!("filled={filled} met={}", tally.met);
+    println!("nanos={least} names={part} lost={}", tally.lost);
 }

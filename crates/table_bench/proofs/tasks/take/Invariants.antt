@@ -1,6 +1,6 @@
 use Rattle.cht_run.specs.Ends.{HasNothing}
 use Rattle.cht_run.specs.Seats.{IsOf}
-use Rattle.table_bench.proofs.tasks.fill.Given as goal
+use Rattle.table_bench.proofs.tasks.take.Given as goal
 
 abbrev pub invariant-loop-name : goal.invariant-loop-name
 invariant-loop-name l = record {

@@ -1,6 +1,6 @@
 use Rattle.cht_run.specs.Ends.{HasNothing}
 use Rattle.cht_run.specs.Seats.{IsOf}
-use Rattle.table_bench.proofs.measure.time_make.Given as goal
+use Rattle.table_bench.proofs.resizes.resize.Given as goal
 
 abbrev pub invariant-loop : goal.invariant-loop
 invariant-loop g l = record {
