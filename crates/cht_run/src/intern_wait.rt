@@ -61,6 +61,7 @@ pub enum InternedWeak {
 
 impl Cht {
     /// Fills the slot that is kept, or the first free one: none where each was taken.
+    #[inline(always)]
     fn fill_any<'t, M: Began>(
         &self,
         seat: &mut Raw,
@@ -83,6 +84,7 @@ impl Cht {
     }
 
     /// Makes an entry: no answer where another was faster, and then the slot is kept.
+    #[inline(always)]
     fn insert_keeping<'t, M: Began>(
         &self,
         seat: &mut Raw,
@@ -119,6 +121,7 @@ impl Cht {
     /// Finds the text's entry or makes one, after the counter was loaded: no answer where the bucket is locked
     /// or another was faster.
     #[tactic(auto, using(crate::proofs::Answering::meeting_waits))]
+    #[inline(always)]
     fn decide<'t, M: Began>(
         &self,
         seat: &mut Raw,
@@ -147,6 +150,7 @@ impl Cht {
     }
 
     /// One try, in a section of its own, which is closed after it: no answer where the call is to try again.
+    #[inline(always)]
     fn intern_try<'t, M: Began>(
         &self,
         seat: &mut Raw,
