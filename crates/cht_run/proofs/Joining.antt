@@ -23,6 +23,7 @@ use Rattle.cht_core.specs.Begins as core
 use Rattle.cht_core.specs.Invariant.{Inv}
 use Rattle.cht_core.specs.Memory.{Memory, memory_of}
 use Rattle.cht_core.specs.View.{View}
+use Rattle.cht_core.specs.Windows.{IsTold}
 use Rattle.cht_core.proofs.Basics.{with_here, with_other}
 use Rattle.cht_core.proofs.SeatJoins.{may_join}
 use Rattle.cht_core.proofs.SeatRests.{may_rest}
@@ -32,9 +33,10 @@ use Rattle.cht_run.specs.declared.sight.Entry.TheVariants as entry
 use Rattle.cht_run.specs.declared.sight.Origin.{Origin}
 use Rattle.cht_run.specs.declared.sight.Sight.{Sight}
 use Rattle.cht_run.specs.Begins.{own_at, is_over, is_resting}
-use Rattle.cht_run.specs.History.{log_of, by_of, is_drawn, NoneBy, IsOut, AreOut, AreApart, Follows, Remembers}
+use Rattle.cht_run.specs.History.{log_of, by_of, is_drawn, NoneBy, draws_of, IsOrderly, IsNumbered, IsOut, AreOut, AreApart, Follows, Remembers, WasTold}
 use Rattle.cht_run.specs.Rule.{view_of, is_seat, Owns, IsNew, IsPart, Fits, IsSnapshot, Kept}
 use Rattle.cht_run.specs.Views.{spent, longer, earlier_of, hears, joined}
+use Rattle.cht_run.proofs.Fronts.{was_told_front}
 use Rattle.cht_run.proofs.Histories.{among_append, among_either, among_left, among_right, all_first, none_first, none_second, out_since}
 use Rattle.cht_run.proofs.Steps.{Seats, part_of}
 use Rattle.cht_run.proofs.Views.{nobody_fits, nobody_owns, no_snapshot}
@@ -451,11 +453,19 @@ pub joins : (o : Origin) (id : ℕ) (v : Sight) (other : ℕ) (w : Sight) → is
 joins o id v other w is_v is_w rests no_work s k at differ after = joined_kept o s k id v at other w differ after is_v is_w rests no_work
 
 -- RECALL: a load that changes nothing, and tells what a seat knows of before its last join
-pub recalls : (o : Origin) (slots id : ℕ) (me : Me (Unit {0}) Sight) → Allows (Kept o) slots id me 0 (λ n. n) (λ n after. (after ≡ me) × Remembers me.0.history me.0.earlier)
+pub recalls : (o : Origin) (slots id : ℕ) (me : Me (Unit {0}) Sight) → Allows (Kept o) slots id me 0 (λ n. n) (λ n after. (after ≡ me) × Remembers me.0.history me.0.earlier × (is_seat me.0 ≡ true → WasTold me.0.origin.table me.0.history))
 recalls o slots id me s k homes at small = (
   me.0,
   keeps,
   tt,
   subst (λ (z : List ℕ × List Sight). Kept o (record { words = z.0; homes = s.homes; views = z.1 })) (λ i. (sym (set-get_or s.words 0 0) i, sym (set_again s.views id me.0 at) i)) k,
-  (refl, (k.fits id me.0 at).earlier),
+  (
+    refl,
+    (k.fits id me.0 at).earlier,
+    λ is.
+        let fits = k.fits id me.0 at in
+        let whole = fits.seen.whole in
+        subst (λ (z : Origin). WasTold z.table me.0.history) (sym (fits.of is))
+            (was_told_front o.table me.0.history fits.seen.later (subst (λ (h : List Entry). IsTold o.table (log_of h)) whole k.told) (subst IsOrderly whole k.orderly) (subst (λ (h : List Entry). IsNumbered 1 (draws_of h)) whole k.numbered)),
+  ),
 )

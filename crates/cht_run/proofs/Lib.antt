@@ -32,6 +32,7 @@ pub mod ChangeStarts
 pub mod ToldLawful
 pub mod Ended
 pub mod Following
+pub mod Fronts
 pub mod ChangeEnds
 pub mod Draws
 pub mod Holding

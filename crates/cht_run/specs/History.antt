@@ -100,6 +100,12 @@ pub record Remembers (history : List Entry) (earlier : List Earlier) : Type 0 wh
   pub seen : All (λ (e : Earlier). Follows e.numbers e.history history) earlier
   pub apart : AreAllApart earlier
 
+-- the log of a history was told event by event, and numbers were drawn one after another, each by a seat whose own was drawn before
+pub record WasTold (t : Table) (history : List Entry) : Type 0 where
+  pub told : IsTold t (log_of history)
+  pub orderly : IsOrderly history
+  pub numbered : IsNumbered 1 (draws_of history)
+
 -- what is so of a history of a table: its log was told event by event, and is lawful where it is short; its handles are those of a table of the shape;
 -- and numbers were drawn one after another, each by a seat whose own was drawn before
 pub record HasSeen (t : Table) (history : List Entry) : Type 0 where

@@ -68,9 +68,11 @@ impl Join<Sight> for Hearing {
 pub(crate) struct Recall;
 
 impl Play<(), Sight> for Recall {
-    ghost use Rattle.cht_run.specs.History.{Remembers};
+    ghost use Rattle.std.specs.Prelude.{true};
+    ghost use Rattle.cht_run.specs.History.{Remembers, WasTold};
+    ghost use Rattle.cht_run.specs.Rule.{is_seat};
 
-    ghost then = { λ _ me _ after. (after ≡ me) × Remembers me.0.history me.0.earlier };
+    ghost then = { λ _ me _ after. (after ≡ me) × Remembers me.0.history me.0.earlier × (is_seat me.0 ≡ true → WasTold me.0.origin.table me.0.history) };
 }
 
 impl Cht {
@@ -115,18 +117,20 @@ impl Cht {
         ensures same { Stays seat.old seat.new }
         ensures own { Follows (numbers seat.old) (history seat.old) (history seat.new) }
         ensures noted { Follows [] note.me.0.history (history seat.new) }
+        ensures sees { HasSeen self.now.origin.table (history seat.new) }
     {
         self.table.shared.join_seat::<Hearing>(&mut seat.raw, note);
         self.table.shared.load::<Recall>(&mut seat.raw, 0);
     }
 
-    /// Two seats of a table meet: each has then seen what either had seen.
+    /// Two seats of a table meet: each has then seen what either had seen, which is a lawful log of the table.
     pub fn meet(&self, seat: &mut Seat, other: &mut Seat)
         requires of { IsOf self.now seat.old × IsOf self.now other.old }
         ensures of { IsOf self.now seat.new × IsOf self.now other.new }
         ensures same { Stays seat.old seat.new × Stays other.old other.new }
         ensures first { Heard seat.old other.old seat.new }
         ensures second { Heard other.old seat.old other.new }
+        ensures sees { HasSeen self.now.origin.table (history seat.new) × HasSeen self.now.origin.table (history other.new) }
     {
         let mine = self.note(&mut seat.raw);
         let theirs = self.note(&mut other.raw);
@@ -134,7 +138,8 @@ impl Cht {
         self.hear(other, mine);
     }
 
-    /// Takes back a seat that was split off. The seat then has the numbers and the holds of both.
+    /// Takes back a seat that was split off. The seat then has the numbers and the holds of both, and has seen what
+    /// either had seen, which is a lawful log of the table.
     pub fn join(&self, seat: &mut Seat, other: Seat)
         requires of { IsOf self.now seat.old × IsOf self.now other }
         requires kid { is_among (kids seat.old) other.number ≡ true }
@@ -148,6 +153,7 @@ impl Cht {
         ensures seen { history seat.new ≡ longer (history seat.old) (history other) }
         ensures first { Follows (numbers seat.old) (history seat.old) (history seat.new) }
         ensures second { Follows (numbers other) (history other) (history seat.new) }
+        ensures sees { HasSeen self.now.origin.table (history seat.new) }
     {
         let Seat { raw, .. } = other;
         self.table.shared.join_seat::<Merging>(&mut seat.raw, raw);

@@ -3,9 +3,10 @@ use Rattle.atomic_table.specs.Table.{Me}
 use Rattle.cht_run.specs.declared.sight.Entry.{Entry}
 use Rattle.cht_run.specs.declared.sight.Origin.{Origin}
 use Rattle.cht_run.specs.declared.sight.Sight.{Sight}
-use Rattle.cht_run.specs.History.{HasHandles, Follows, Remembers}
+use Rattle.cht_run.specs.History.{HasHandles, HasSeen, Follows, Remembers, WasTold}
 use Rattle.cht_run.specs.Rule.{is_seat}
 use Rattle.cht_run.specs.Views.{longer, earlier_of}
+use Rattle.cht_run.proofs.Fronts.{told_is_seen}
 use Rattle.cht_run.proofs.Handles.{longer_handles}
 use Rattle.cht_run.proofs.Histories.{among_right}
 use Rattle.cht_run.proofs.Joining.{joins, recalls, of_first, of_second, of_both}
@@ -60,3 +61,13 @@ invariant_of-seat-clause-handles c =
 
 pub invariant_of-seat-clause-seat : goal.invariant_of-seat-clause-seat
 invariant_of-seat-clause-seat c = subst (λ (me : Me (Unit {0}) Sight). is_seat me.0 ≡ true) (sym (c.load.ensures.2.0 ∙ c.join_seat.ensures.2)) (among_right c.args.other.raw.me.0.numbers c.args.seat.now.raw.me.0.numbers c.args.seat.now.raw.me.0.number c.args.seat.now.seat)
+
+pub returns-clause-sees : goal.returns-clause-sees
+returns-clause-sees c =
+    let v = c.args.seat.now.raw.me.0 in
+    let w = c.args.other.raw.me.0 in
+    let both = longer v.history w.history in
+    let told : WasTold v.origin.table both = subst (λ (me : Me (Unit {0}) Sight). is_seat me.0 ≡ true → WasTold me.0.origin.table me.0.history) c.join_seat.ensures.2 c.load.ensures.2.2 (among_right c.args.other.raw.me.0.numbers c.args.seat.now.raw.me.0.numbers c.args.seat.now.raw.me.0.number c.args.seat.now.seat) in
+    let handles : HasHandles v.origin.table.shape both = longer_handles v.origin.table.shape v.history w.history c.args.seat.now.handles (subst (λ (o : Origin). HasHandles o.table.shape w.history) (c.requires.of.1.origin ∙ sym c.requires.of.0.origin) c.args.other.handles) in
+    let sees : HasSeen c.args.self.now.origin.table both = subst (λ (o : Origin). HasSeen o.table both) c.requires.of.0.origin (told_is_seen v.origin.table both told handles) in
+    subst (λ (h : List Entry). HasSeen c.args.self.now.origin.table h) (sym (ap (λ (me : Me (Unit {0}) Sight). me.0.history) (c.load.ensures.2.0 ∙ c.join_seat.ensures.2))) sees
