@@ -5,8 +5,8 @@ use Rattle.std.proofs.lemmas.List.Elements.{All-nil, All-cons, All-head, All-tai
 use Rattle.std.specs.List.{All}
 use mathlib.Core.Option.{some}
 use lib.ListN.{get_elem?}
-use Rattle.atomic_table.specs.Table.{Me, keeps, Allows, Final, Seen}
-use Rattle.atomic_table.proofs.Lists.{at_set}
+use Rattle.atomic_table.specs.Table.{State, Me, keeps, Allows, Final, Seen}
+use Rattle.atomic_table.proofs.Lists.{at_set, set_again}
 use Rattle.intern_log.specs.declared.event.Event.{Event}
 use Rattle.intern_log.specs.Lawful.{IsLawful}
 use Rattle.intern_log.specs.Own.{is_among}
@@ -18,6 +18,7 @@ use Rattle.cht_run.specs.declared.sight.Entry.{Entry}
 use Rattle.cht_run.specs.declared.sight.Entry.TheVariants as entry
 use Rattle.cht_run.specs.declared.sight.Origin.{Origin}
 use Rattle.cht_run.specs.declared.sight.Sight.{Sight}
+use Rattle.cht_run.specs.Ends.{HasWhole}
 use Rattle.cht_run.specs.History.{log_of, by_of, IsOrderly, AreOut}
 use Rattle.cht_run.specs.Looks.{seeing, Looked}
 use Rattle.cht_run.specs.Rule.{view_of, is_seat, Owns, Fits, IsSnapshot, Kept}
@@ -154,18 +155,32 @@ events_by numbers (entry.Told e ∷ xs) all =
     (events_by numbers xs (All-tail (λ (x : Entry). is_among numbers (by_of x) ≡ true) (entry.Told e) xs all))
 events_by numbers (entry.Drew by number ∷ xs) all = events_by numbers xs (All-tail (λ (x : Entry). is_among numbers (by_of x) ≡ true) (entry.Drew by number) xs all)
 
-pub closes : (o : Origin) (id : ℕ) (v : Sight) (words : List ℕ) (slots : List (Unit {0})) → Final (Seen (Kept o) id v) words slots → is_seat v ≡ true → v.kids ≡ [] → is_among v.numbers 0 ≡ true → Closed o v
-closes o id v words slots end is none_out root =
-    let s = end.0 in
-    let k = end.1.0 in
-    let at = end.1.1 in
+has_whole : (o : Origin) (s : State (Unit {0}) Sight) (k : Kept o s) (id : ℕ) (v : Sight) (at : get_elem? s.views id ≡ some v) → is_seat v ≡ true → v.kids ≡ [] → is_among v.numbers 0 ≡ true → HasWhole o.table v.numbers (log_of v.history)
+has_whole o s k id v at is none_out root =
     let f = k.fits id v at in
     let whole : k.history ≡ v.history = f.seen.whole ∙ ap (λ l. v.history ++ l) (none_since o s k id v at is none_out root) ∙ append-nil v.history in
     record {
-      of = f.of is;
       lawful = subst (λ (h : List Entry). IsShort (log_of h) → IsLawful (kind_of o.table) (log_of h)) whole k.inv.lawful;
       mine = events_by v.numbers v.history (all_by v.numbers v.history (subst IsOrderly whole k.orderly) (subst (λ kids. AreOut v.numbers kids v.history) none_out f.out) root);
     }
+
+-- a load by which it knows that
+pub wholes : (o : Origin) (slots id : ℕ) (me : Me (Unit {0}) Sight) →
+    Allows (Kept o) slots id me 0 (λ n. n) (λ n after. (after ≡ me) × (is_seat me.0 ≡ true → me.0.kids ≡ [] → is_among me.0.numbers 0 ≡ true → HasWhole me.0.origin.table me.0.numbers (log_of me.0.history)))
+wholes o slots id me s k homes at small = (
+  me.0,
+  keeps,
+  tt,
+  subst (λ (z : List ℕ × List Sight). Kept o (record { words = z.0; homes = s.homes; views = z.1 })) (λ i. (sym (set-get_or s.words 0 0) i, sym (set_again s.views id me.0 at) i)) k,
+  (refl, λ is none_out root. subst (λ (z : Origin). HasWhole z.table me.0.numbers (log_of me.0.history)) (sym ((k.fits id me.0 at).of is)) (has_whole o s k id me.0 at is none_out root)),
+)
+
+pub closes : (o : Origin) (id : ℕ) (v : Sight) (words : List ℕ) (slots : List (Unit {0})) → Final (Seen (Kept o) id v) words slots → is_seat v ≡ true → v.kids ≡ [] → is_among v.numbers 0 ≡ true → Closed o v
+closes o id v words slots end is none_out root =
+    let k = end.1.0 in
+    let at = end.1.1 in
+    let whole = has_whole o end.0 k id v at is none_out root in
+    record { of = (k.fits id v at).of is; lawful = whole.lawful; mine = whole.mine }
 
 -- the same of a seat of which a note was taken
 pub noted_closes : (o : Origin) (id : ℕ) (me now : Me (Unit {0}) Sight) (words : List ℕ) (slots : List (Unit {0})) → Final (Seen (Kept o) id now.0) words slots → now ≡ me → is_seat me.0 ≡ true → me.0.kids ≡ [] →

@@ -1,9 +1,13 @@
 -- How seats come to a table, meet, and go.
 use Rattle.std.specs.Prelude.{◌≡◌, ℕ, true, List, [], ◌∷◌, None}
 use Rattle.intern_log.specs.declared.event.Event.{Event}
+use Rattle.std.specs.List.{All}
+use Rattle.intern_log.specs.Lawful.{IsLawful}
 use Rattle.intern_log.specs.Own.{is_among}
+use Rattle.intern_log.specs.Short.{IsShort}
 use Rattle.cht_core.specs.declared.table.Table.{Table}
 use Rattle.cht_core.specs.Causes.{now_in}
+use Rattle.cht_core.specs.Past.{kind_of}
 use Rattle.cht_run.specs.declared.front.Front.{Front}
 use Rattle.cht_run.specs.declared.seat.Seat.{Seat}
 use Rattle.cht_run.specs.declared.table.Cht.{Cht}
@@ -43,6 +47,11 @@ pub record Heard (old other new : Seat) : Type 0 where
 pub record IsAlone (seat : Seat) : Type 0 where
   pub root : is_among (numbers seat) 0 ≡ true
   pub kids : kids seat ≡ []
+
+-- what such a seat has seen is the whole log of the table: it is lawful where it is short, and all of it is by the seat's numbers
+pub record HasWhole (t : Table) (numbers : List ℕ) (log : List Event) : Type 0 where
+  pub lawful : IsShort log → IsLawful (kind_of t) log
+  pub mine : All (λ (e : Event). is_among numbers e.seat ≡ true) log
 
 -- the log of a closed table
 abbrev pub log_in : Front → List Event

@@ -4,9 +4,9 @@ use Rattle.cht_run.specs.declared.rehash.Rehashed.{Rehashed}
 use Rattle.cht_run.specs.declared.rehash.Rehashed.TheVariants as rehashed
 use Rattle.cht_run.specs.declared.seat.Seat.{Seat}
 use Rattle.cht_run.specs.declared.table.Cht.{Cht}
-use Rattle.cht_run.specs.Ends.{Stays, log_in}
+use Rattle.cht_run.specs.Ends.{Stays, HasWhole, log_in}
 use Rattle.cht_run.specs.Heirs.{rehash_of}
-use Rattle.cht_run.specs.Seats.{history, seen, IsOf}
+use Rattle.cht_run.specs.Seats.{history, seen, numbers, IsOf}
 
 -- the same table by the next seed, and the seat as it was: its log has grown by the Rehash alone
 pub record IsRehash (old : Cht) (seat : Seat) (new : Cht) (heir : Seat) : Type 0 where
@@ -19,4 +19,4 @@ pub record IsRehash (old : Cht) (seat : Seat) (new : Cht) (heir : Seat) : Type 0
 -- or the table is closed
 abbrev pub Rehashes : Cht → Seat → Rehashed → Type 0
 Rehashes old seat (rehashed.Done new heir) = IsRehash old seat new heir
-Rehashes old seat (rehashed.OutOfMemory front) = (front.origin ≡ old.origin) × (log_in front ≡ seen seat)
+Rehashes old seat (rehashed.OutOfMemory front) = (front.origin ≡ old.origin) × (log_in front ≡ seen seat) × HasWhole old.origin.table (numbers seat) (log_in front)

@@ -16,7 +16,7 @@ use crate::shared::{Opening, Ruled};
 use crate::sight::{Origin, Sight};
 use crate::table::Cht;
 use atomic_step::Place;
-use atomic_table::Table as Words;
+use atomic_table::{Play, Table as Words};
 use cht_core::rehash::make_anew;
 use std::alloc::{AllocError, Global};
 
@@ -25,8 +25,21 @@ use std::alloc::{AllocError, Global};
 pub enum Rehashed {
     /// The table by the next seed, and the seat in it.
     Done(Cht, Seat),
-    /// There was no memory. The table is closed, and this is left of it.
+    /// There was no memory. The table is closed, and this is left of it, as `close` gives it.
     OutOfMemory(Front),
+}
+
+/// A load by which a seat to which all others have come back knows that it has seen the whole log.
+pub(crate) struct Whole;
+
+impl Play<(), Sight> for Whole {
+    ghost use Rattle.intern_log.specs.Own.{is_among};
+    ghost use Rattle.cht_run.specs.Ends.{HasWhole};
+    ghost use Rattle.cht_run.specs.History.{log_of};
+    ghost use Rattle.cht_run.specs.Rule.{is_seat};
+    ghost use Rattle.std.specs.Prelude.{true};
+
+    ghost then = { λ _ me _ after. (after ≡ me) × (is_seat me.0 ≡ true → me.0.kids ≡ [] → is_among me.0.numbers 0 ≡ true → HasWhole me.0.origin.table me.0.numbers (log_of me.0.history)) };
 }
 
 impl Cht {
@@ -49,6 +62,7 @@ impl Cht {
             cursor,
             passed,
         } = seat;
+        self.table.shared.load::<Whole>(&mut raw, 0);
         let note = self.note(&mut raw);
         let heir = self.leave(&mut raw);
         let Cht {
