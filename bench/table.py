@@ -3,9 +3,9 @@
 Usage: table.py PROGRAM [BASELINE.rs]
 
 PROGRAM is built of the crate table_bench, and BASELINE.rs by `rustc -O`, where there is one; else its columns are left out. In a pass each thread
-goes once over its names, and all threads start together. A row has what one name takes the thread that takes longest, in the shortest pass, in
-nanoseconds. Both programs are run in turns, and both must say that they met the same. While the table grows and shrinks all the time a row has
-the mean of all passes, and there is nothing by hand.
+does its task with up to 4,096 names of its list, and all threads start together. A row has the shortest pass, from the first start to the last end,
+divided by the names of one thread. Both programs are run in turns, and both must say that they met the same. While the table grows and shrinks all
+the time a row has the mean of all passes, and there is nothing by hand.
 """
 import os
 import shutil
@@ -17,7 +17,9 @@ TURNS = 4
 SEATS = 8
 THREADS = (1, 2, 4)
 WORK_PASSES = 3
-SIZES = [(4096, 12, 400), (4096, 9, 400), (65536, 16, 12), (65536, 13, 12)]
+RESIZED_PASSES = 1600
+# The live names, the level, and the passes.
+SIZES = [(4096, 12, 400), (4096, 9, 400), (65536, 16, 160), (65536, 13, 160)]
 TASKS = [
     ("find", "found, weak"),
     ("take", "found, counted"),
@@ -25,8 +27,9 @@ TASKS = [
     ("make", "created and dropped"),
     ("miss", "missed"),
 ]
-# The greatest row of the shape has 1,024 heads: section words of up to 127 seats are spread over it.
+# A table of 1,024 names at level 9. Its greatest row has 1,024 heads, among which the section words of up to 127 seats stand eight words apart.
 SPREAD = [(127, "eight words apart"), (128, "side by side")]
+SPREAD_SIZE = (1024, 9, 1600)
 
 
 def run(program, words):
@@ -75,7 +78,7 @@ def calls(programs):
 def section_words(programs):
     """Look-ups of weak tables whose section words stand apart, and of such in which they do not."""
     head("section words", programs)
-    names, level, passes = SIZES[1]
+    names, level, passes = SPREAD_SIZE
     for threads in THREADS:
         for seats, label in SPREAD:
             least = time(programs, ["find", names, level, level + 1, seats, threads, passes, "timed"])
@@ -86,22 +89,26 @@ def resized(program):
     """Calls while a further thread grows and shrinks the table all the time."""
     print(f"\n{'grown and shrunk':<20} {'names':>6} {'a bucket':>8} {'threads':>7}  the program  works done")
     for task, label in TASKS[:3:2]:
-        for names, level, passes in SIZES:
+        for names, level, _ in SIZES:
             for threads in THREADS:
-                words = [task, names, level, level + 1, SEATS, threads, 4 * passes, "resized"]
+                words = [task, names, level, level + 1, SEATS, threads, RESIZED_PASSES, "resized"]
                 told = run(program, words)
                 took = told["nanos"] / told["names"]
                 print(f"{label:<20} {names:>6} {names >> level:>8} {threads:>7}  {took:8.1f} ns  {told['works']:>10}", flush=True)
 
 
-def works(program):
+def works(programs):
     """Cleans, grows and shrinks. Before each clean as many names are dead as a quarter of the live ones."""
-    print(f"\n{'works':<20} {'names':>6} {'a bucket':>8}        clean         grow       shrink")
-    for names, level, _ in SIZES:
-        told = [run(program, ["works", names, level, level + 1, SEATS, 1, WORK_PASSES, "timed"]) for _ in range(TURNS)]
+    by_hand = "  clean by hand" * (len(programs) - 1)
+    print(f"\n{'works':<20} {'names':>6} {'a bucket':>8}        clean         grow       shrink{by_hand}")
+    for names, level, passes in SIZES:
+        shape = [names, level, level + 1, SEATS, 1]
+        told = [run(programs[0], ["works", *shape, WORK_PASSES, "timed"]) for _ in range(TURNS)]
         if any(one["works"] != WORK_PASSES for one in told):
             sys.exit(f"a work of a table of {names} names did not end")
         least = "".join(f"  {min(one[work] for one in told) / 1e6:8.2f} ms" for work in ("clean", "grow", "shrink"))
+        for program in programs[1:]:
+            least += f"  {run(program, ['make', *shape, passes])['clean'] / 1e6:10.2f} ms"
         print(f"{'':<20} {names:>6} {names >> level:>8}{least}", flush=True)
 
 
@@ -113,8 +120,8 @@ def main():
             subprocess.run(["rustc", "-O", "-o", programs[1], sys.argv[2]], check=True)
         calls(programs)
         section_words(programs)
-    resized(programs[0])
-    works(programs[0])
+        resized(programs[0])
+        works(programs)
 
 
 main()

@@ -1,10 +1,12 @@
 //! The calls of a running table by hand, on `AtomicU64`s, with the same atomic steps in the same order.
 //!
-//! Usage: table TASK NAMES LEVEL MOST SEATS THREADS PASSES, as the program of the crate `table_bench`. It prints the same two lines.
-//! It has any shape and any text, and each index into the words is checked.
+//! Usage: table TASK NAMES LEVEL MOST SEATS THREADS PASSES, as the program of the crate `table_bench`. It prints the same
+//! two lines, and where it cleaned the table, the shortest time of that. A shape and a text are any, and each index is checked.
 use std::sync::atomic::{AtomicU64, Ordering::SeqCst};
 use std::time::Instant;
 
+/// How many names a pass has at most.
+const STRETCH: usize = 4096;
 const COUNTER: u64 = 1;
 const LEVEL: u64 = 3;
 const NEW_LEVEL: u64 = 4;
@@ -350,37 +352,48 @@ fn make(table: &Table, seat: &mut Seat, names: &[Name]) -> Tally {
     Tally { met: met + lost, lost }
 }
 
-/// Starts with the other threads, and does the task with each name: what came of it, and how long it took.
-fn turn(table: &Table, seat: &mut Seat, task: &str, names: &[Name], came: &AtomicU64, threads: u64) -> (Tally, u128) {
-    came.fetch_add(1, SeqCst);
-    while came.load(SeqCst) < threads {
+/// The names of a pass: a stretch of the list, and in the next pass the next one.
+fn stretch(names: &[Name], pass: usize) -> &[Name] {
+    let from = pass % (names.len() / STRETCH).max(1) * STRETCH;
+    names.get(from..from + STRETCH).unwrap_or(names)
+}
+
+/// The line from which threads start together.
+struct Line {
+    threads: u64,
+    made: Instant,
+    came: AtomicU64,
+}
+
+/// Starts with the other threads, and does the task with each name: what came of it, and its start and end.
+fn turn(table: &Table, seat: &mut Seat, task: &str, names: &[Name], line: &Line) -> (Tally, u128, u128) {
+    line.came.fetch_add(1, SeqCst);
+    while line.came.load(SeqCst) < line.threads {
         std::hint::spin_loop();
     }
-    let start = Instant::now();
+    let start = line.made.elapsed().as_nanos();
     let tally = match task {
         "find" | "miss" => find(table, seat, names),
         "take" => take(table, seat, names),
         "hold" => hold(table, seat, names),
         _ => make(table, seat, names),
     };
-    (tally, start.elapsed().as_nanos())
+    (tally, start, line.made.elapsed().as_nanos())
 }
 
-/// All threads do the task: what came of it, and how long it took the one that took longest.
-fn pass(table: &Table, seats: &mut [Seat], task: &str, lists: &[Vec<Name>]) -> (Tally, u128) {
-    let came = &AtomicU64::new(0);
-    let threads = lists.len() as u64;
+/// All threads do the task: what came of it, and the time from the first start to the last end.
+fn pass(table: &Table, seats: &mut [Seat], task: &str, lists: &[Vec<Name>], pass: usize) -> (Tally, u128) {
+    let line = &Line { threads: lists.len() as u64, made: Instant::now(), came: AtomicU64::new(0) };
     std::thread::scope(|scope| {
-        let mut parts = seats.iter_mut().zip(lists);
+        let mut parts = seats.iter_mut().zip(lists.iter().map(|list| stretch(list, pass)));
         let own = parts.next();
-        let others: Vec<_> =
-            parts.map(|(seat, list)| scope.spawn(move || turn(table, seat, task, list, came, threads))).collect();
-        let own = own.map(|(seat, list)| turn(table, seat, task, list, came, threads));
-        others
-            .into_iter()
-            .map(|thread| thread.join().expect("a thread ends"))
-            .chain(own)
-            .fold((Tally::default(), 0), |(tally, most), (more, nanos)| (tally.plus(more), most.max(nanos)))
+        let others: Vec<_> = parts.map(|(seat, names)| scope.spawn(move || turn(table, seat, task, names, line))).collect();
+        let own = own.map(|(seat, names)| turn(table, seat, task, names, line));
+        let done = others.into_iter().map(|thread| thread.join().expect("a thread ends")).chain(own);
+        let (tally, first, last) = done.fold((Tally::default(), u128::MAX, 0), |(tally, first, last), (more, start, end)| {
+            (tally.plus(more), first.min(start), last.max(end))
+        });
+        (tally, last - first)
     })
 }
 
@@ -396,18 +409,24 @@ fn main() {
     for name in names(0, live, 1) {
         filled += u64::from(matches!(table.intern(&mut seats[0], &name), Interned::Created(_)));
     }
-    let part = if task == "make" { live / 4 } else { live };
-    let first = |at: u64| if matches!(task, "miss" | "make") { live + at * part } else { 0 };
-    let lists: Vec<Vec<Name>> = (0..threads).map(|at| names(first(at), part, 0x6d2b_79f5 + 2 * at)).collect();
-    let (mut tally, mut least) = (Tally::default(), u128::MAX);
-    for _ in 0..number(6) {
-        let (more, nanos) = pass(&table, &mut seats, task, &lists);
+    let share = if task == "make" { live / 4 } else { live };
+    let first = |at: u64| if matches!(task, "miss" | "make") { live + at * share } else { 0 };
+    let lists: Vec<Vec<Name>> = (0..threads).map(|at| names(first(at), share, 0x6d2b_79f5 + 2 * at)).collect();
+    let rounds = (share as usize / STRETCH).max(1);
+    let (mut tally, mut least, mut clean) = (Tally::default(), u128::MAX, u128::MAX);
+    for number in 0..number(6) as usize {
+        let (more, nanos) = pass(&table, &mut seats, task, &lists, number);
         tally = tally.plus(more);
         least = least.min(nanos);
-        if task == "make" {
+        if task == "make" && (number + 1) % rounds == 0 {
+            let start = Instant::now();
             table.clean(level);
+            clean = clean.min(start.elapsed().as_nanos());
         }
     }
     println!("filled={filled} met={}", tally.met);
-    println!("nanos={least} names={part} lost={}", tally.lost);
+    println!("nanos={least} names={} lost={}", share.min(STRETCH as u64), tally.lost);
+    if task == "make" {
+        println!("clean={clean}");
+    }
 }

@@ -6,13 +6,13 @@ ghost use Rattle.table_bench.specs.Tasks.{kind_of};
 
 use crate::line::Line;
 use crate::names::Name;
-use crate::tasks::{Tally, Task, turns};
+use crate::tasks::{STRETCH, Tally, Task, passes};
 use cht_run::{Cht, Seat};
 use std::alloc::Global;
 use std::io;
 use std::sync::Wait;
 use std::thread::{Threads, map_vec};
-use std::time::{Clock, Instant};
+use std::time::Clock;
 
 /// What one thread has and does, and what came of it.
 #[derive(Drop)]
@@ -22,7 +22,8 @@ pub struct Caller<'a> {
     task: Task,
     names: &'a [Name],
     tally: Tally,
-    nanos: u128,
+    start: u128,
+    end: u128,
     ghost of: { IsOf cht.now seat },
     ghost kind: { cht.now.origin.table.kind ≡ kind_of task },
     ghost nothing: { HasNothing seat },
@@ -48,13 +49,14 @@ impl<'a> Caller<'a> {
             task,
             names,
             tally: Tally::new(),
-            nanos: 0,
+            start: 0,
+            end: 0,
         }
     }
 
-    /// Starts with the others, and does the task with each name so many times over. Where the others have not come, the
-    /// time does not count.
-    fn call<R: Clock>(self, rt: &R, line: &Line, count: u32) -> io::Result<Caller<'a>> {
+    /// Starts with the others, and makes its passes from one number up to another. Where the others have not come, it has
+    /// no end.
+    fn call<R: Clock>(self, rt: &R, line: &Line, from: u32, to: u32) -> io::Result<Caller<'a>> {
         let Caller {
             cht,
             seat,
@@ -64,9 +66,9 @@ impl<'a> Caller<'a> {
             ..
         } = self;
         let together = line.wait();
-        let start = Instant::now(rt)?;
-        let (seat, more) = turns(task, cht, seat, names, count);
-        let nanos = start.elapsed(rt)?.as_nanos();
+        let start = line.nanos(rt)?;
+        let (seat, more) = passes(task, cht, seat, names, from, to);
+        let end = line.nanos(rt)?;
         line.leave();
         Ok(Caller {
             cht,
@@ -74,13 +76,15 @@ impl<'a> Caller<'a> {
             task,
             names,
             tally: tally.plus(more),
-            nanos: if together { nanos } else { u128::MAX },
+            start,
+            end: if together { end } else { u128::MAX },
         })
     }
 
-    /// Cleans the table, where it has entries that the task has left dead.
-    fn tidy<R: Wait>(self, rt: &R) -> Caller<'a> {
-        if self.task != Task::Make {
+    /// Cleans the table, where the pass of this number was the last one over the names and has left dead entries.
+    fn tidy<R: Wait>(self, rt: &R, pass: u32) -> Caller<'a> {
+        let rounds = (self.names.len() / STRETCH).max(1);
+        if self.task != Task::Make || (pass as usize + 1) % rounds != 0 {
             return self;
         }
         let Caller {
@@ -89,7 +93,8 @@ impl<'a> Caller<'a> {
             task,
             names,
             tally,
-            nanos,
+            start,
+            end,
         } = self;
         cht.clean(rt, &mut seat);
         Caller {
@@ -98,20 +103,22 @@ impl<'a> Caller<'a> {
             task,
             names,
             tally,
-            nanos,
+            start,
+            end,
         }
     }
 }
 
-/// All callers do their task at the same time, each in a thread of its own.
+/// All callers make their passes at the same time, each in a thread of its own.
 pub fn call_all<'a, R: Threads + Clock + Sync>(
     rt: &R,
     alloc: Global,
     crew: Vec<Caller<'a>>,
     line: &Line,
-    count: u32,
+    from: u32,
+    to: u32,
 ) -> io::Result<Vec<Caller<'a>>> {
-    let called = map_vec(rt, crew, &|caller| caller.call(rt, line, count))?;
+    let called = map_vec(rt, crew, &|caller| caller.call(rt, line, from, to))?;
     let mut crew = Vec::new(alloc);
     for caller in called {
         crew.push(caller?)?;
@@ -119,19 +126,20 @@ pub fn call_all<'a, R: Threads + Clock + Sync>(
     Ok(crew)
 }
 
-/// What they have done, and how long the last pass took whoever took longest.
+/// What they have done, and the time from the first start of the last passes to the last end.
 pub fn sum(crew: &[Caller<'_>]) -> Passed {
-    let mut all = Passed {
-        tally: Tally::new(),
-        nanos: 0,
-    };
+    let mut tally = Tally::new();
+    let mut start = u128::MAX;
+    let mut end = 0u128;
     for caller in crew {
-        all = Passed {
-            tally: all.tally.plus(caller.tally),
-            nanos: all.nanos.max(caller.nanos),
-        };
+        tally = tally.plus(caller.tally);
+        start = start.min(caller.start);
+        end = end.max(caller.end);
     }
-    all
+    Passed {
+        tally,
+        nanos: end.saturating_sub(start),
+    }
 }
 
 /// Passes of all callers: what they have done, and the shortest time of a pass.
@@ -143,12 +151,12 @@ pub fn time_passes<'a, R: Threads + Wait + Clock + Sync>(
 ) -> io::Result<Passed> {
     let mut crew = crew;
     let mut least = u128::MAX;
-    for _ in 0..passes {
-        let line = Line::new(crew.len() as u64);
-        crew = call_all(rt, alloc, crew, &line, 1)?;
+    for pass in 0..passes {
+        let line = Line::make(rt, crew.len() as u64)?;
+        crew = call_all(rt, alloc, crew, &line, pass, pass + 1)?;
         least = least.min(sum(crew.as_slice()).nanos);
         if let Some(first) = crew.pop() {
-            crew.push(first.tidy(rt))?;
+            crew.push(first.tidy(rt, pass))?;
         }
     }
     Ok(Passed {

@@ -1,6 +1,8 @@
 //! A line from which threads start together.
 use std::hint::spin_loop;
+use std::io;
 use std::sync::atomic::{AtomicU64, Ordering};
+use std::time::{Clock, Instant};
 
 /// How often a thread looks whether the others have come.
 const PATIENCE: u32 = 1 << 22;
@@ -9,18 +11,25 @@ const PATIENCE: u32 = 1 << 22;
 #[derive(Drop)]
 pub struct Line {
     threads: u64,
+    made: Instant,
     came: AtomicU64,
     left: AtomicU64,
 }
 
 impl Line {
     /// A line for so many threads.
-    pub fn new(threads: u64) -> Line {
-        Line {
+    pub fn make<R: Clock>(rt: &R, threads: u64) -> io::Result<Line> {
+        Ok(Line {
             threads,
+            made: Instant::now(rt)?,
             came: AtomicU64::new(0),
             left: AtomicU64::new(0),
-        }
+        })
+    }
+
+    /// The nanoseconds since the line was made.
+    pub fn nanos<R: Clock>(&self, rt: &R) -> io::Result<u128> {
+        Ok(self.made.elapsed(rt)?.as_nanos())
     }
 
     /// Waits for the others, but not for ever: whether all have come.

@@ -3,8 +3,9 @@
 //! Usage: table_bench TASK NAMES LEVEL MOST SEATS THREADS PASSES [timed | resized]
 //!
 //! TASK is one of those of `Task::named`, or `works`. The table has NAMES live names, and LEVEL is its least level. Each of
-//! THREADS threads does the task with its list of names, PASSES times over. Where they are `resized`, a further thread grows
-//! and shrinks the table all the time.
+//! THREADS threads does the task with a stretch of its names in each of PASSES passes. They start each pass together, and its
+//! time is that from the first start to the last end. Where they are `resized`, a further thread grows and shrinks the table
+//! all the time, and the passes follow one another.
 #![tactic(auto)]
 
 ghost use Rattle.std.specs.Prelude.{◌≡◌};
@@ -31,7 +32,7 @@ use std::rt::Runtime;
 use std::sync::Wait;
 use std::thread::Threads;
 use std::{env, io};
-use tasks::{Task, fill, fill_counted};
+use tasks::{STRETCH, Task, fill, fill_counted};
 use works::time_works;
 
 /// The words behind the program's own name.
@@ -176,12 +177,7 @@ fn resized<R: Threads + Wait + Runtime + Sync>(
     let Some(crew) = crew(alloc, cht, task, seat, lists)? else {
         return Ok(None);
     };
-    let (passed, works) = time_resized(rt, alloc, cht, other, crew, passes)?;
-    let passed = Passed {
-        nanos: passed.nanos / u128::from(passes.max(1)),
-        ..passed
-    };
-    Ok(Some((passed, works)))
+    Ok(Some(time_resized(rt, alloc, cht, other, crew, passes)?))
 }
 
 /// Fills a table, and has the threads do the task.
@@ -260,7 +256,7 @@ fn run<R: Threads + Wait + Runtime + Sync>(
         println!(rt;
             "nanos={} names={} lost={} works={works}",
             passed.nanos,
-            share(task, asked),
+            share(task, asked).min(STRETCH as u64),
             passed.tally.lost
         )?;
     }

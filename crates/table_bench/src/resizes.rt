@@ -36,24 +36,30 @@ fn resize<R: Wait>(rt: &R, cht: &Cht, seat: Seat, line: &Line) -> u64
     works
 }
 
-/// One long pass of all callers while a further thread grows and shrinks: what they have done, and how many works.
+/// Passes of all callers, one after another, while a further thread grows and shrinks: what they have done, the mean time
+/// of a pass, and how many works were done.
 pub fn time_resized<'a, R: Threads + Wait + Clock + Sync>(
     rt: &R,
     alloc: Global,
     cht: &Cht,
     seat: Seat,
     crew: Vec<Caller<'a>>,
-    count: u32,
+    passes: u32,
 ) -> io::Result<(Passed, u64)>
     requires of { IsOf cht.now seat }
     requires nothing { HasNothing seat }
 {
-    let line = Line::new(crew.len() as u64 + 1);
+    let line = Line::make(rt, crew.len() as u64 + 1)?;
     let (crew, works) = join(
         rt,
-        || call_all(rt, alloc, crew, &line, count),
+        || call_all(rt, alloc, crew, &line, 0, passes),
         || resize(rt, cht, seat, &line),
     );
     let crew = crew?;
-    Ok((sum(crew.as_slice()), works))
+    let passed = sum(crew.as_slice());
+    let passed = Passed {
+        nanos: passed.nanos / u128::from(passes.max(1)),
+        ..passed
+    };
+    Ok((passed, works))
 }

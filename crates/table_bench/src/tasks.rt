@@ -11,6 +11,9 @@ use cht_run::lookup::{TryFind, TryLookup};
 use cht_run::{Cht, Seat};
 use intern_log::Kind;
 
+/// How many names a pass has at most.
+pub const STRETCH: usize = 4096;
+
 /// What is done with each name.
 #[derive(Clone, Copy, PartialEq, Eq)]
 pub enum Task {
@@ -187,8 +190,21 @@ fn turn(task: Task, cht: &Cht, seat: Seat, names: &[Name]) -> (Seat, Tally)
     }
 }
 
-/// Does a task with each name, so many times over.
-pub fn turns(task: Task, cht: &Cht, seat: Seat, names: &[Name], count: u32) -> (Seat, Tally)
+/// The names of a pass: a stretch of the list, and in the next pass the next one.
+fn stretch(names: &[Name], pass: u32) -> &[Name] {
+    let from = pass as usize % (names.len() / STRETCH).max(1) * STRETCH;
+    names.get(from..from + STRETCH).unwrap_or(names)
+}
+
+/// Passes from one number up to another: a task with each name of its stretch.
+pub fn passes(
+    task: Task,
+    cht: &Cht,
+    seat: Seat,
+    names: &[Name],
+    from: u32,
+    to: u32,
+) -> (Seat, Tally)
     requires of { IsOf cht.now seat }
     requires kind { cht.now.origin.table.kind ≡ kind_of task }
     requires nothing { HasNothing seat }
@@ -197,8 +213,8 @@ pub fn turns(task: Task, cht: &Cht, seat: Seat, names: &[Name], count: u32) -> (
 {
     let mut seat = seat;
     let mut tally = Tally::new();
-    for _ in 0..count {
-        let (next, more) = turn(task, cht, seat, names);
+    for pass in from..to {
+        let (next, more) = turn(task, cht, seat, stretch(names, pass));
         seat = next;
         tally = tally.plus(more);
     }
