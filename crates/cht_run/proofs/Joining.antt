@@ -466,6 +466,6 @@ recalls o slots id me s k homes at small = (
         let fits = k.fits id me.0 at in
         let whole = fits.seen.whole in
         subst (λ (z : Origin). WasTold z.table me.0.history) (sym (fits.of is))
-            (was_told_front o.table me.0.history fits.seen.later (subst (λ (h : List Entry). IsTold o.table (log_of h)) whole k.told) (subst IsOrderly whole k.orderly) (subst (λ (h : List Entry). IsNumbered 1 (draws_of h)) whole k.numbered)),
+        (was_told_front o.table me.0.history fits.seen.later (subst (λ (h : List Entry). IsTold o.table (log_of h)) whole k.told) (subst IsOrderly whole k.orderly) (subst (λ (h : List Entry). IsNumbered 1 (draws_of h)) whole k.numbered)),
   ),
 )
