@@ -40,20 +40,20 @@ pub enum CleanStage {
 /// What goes along with a clean.
 #[derive(Debug, Drop)]
 pub struct CleanAlong {
-    pub(crate) cleaning: Cleaning,
+    pub cleaning: Cleaning,
     /// How many passes of this poll over this bucket unlinked 256 slots; 2^32 - 1 stays.
-    pub(crate) full_passes: u32,
+    pub full_passes: u32,
     /// The last grace.
-    pub(crate) grace: Grace,
+    pub grace: Grace,
     /// How many graces were begun; 2^64 - 1 stays.
-    pub(crate) graces: u64,
+    pub graces: u64,
 }
 
 /// A clean of a table.
 #[derive(Debug, Drop)]
 pub struct Clean {
-    pub(crate) along: CleanAlong,
-    pub(crate) stage: CleanStage,
+    pub along: CleanAlong,
+    pub stage: CleanStage,
 }
 
 /// At the next node of the locked bucket, or at its end.
@@ -104,7 +104,8 @@ impl CleanAlong {
     }
 
     /// A pass that unlinked 256 slots by itself counts.
-    fn count_pass(&mut self)
+    #[inline]
+    pub fn count_pass(&mut self)
         ensures value { self.new ≡ cleans.counts_pass self.old }
     {
         if self.cleaning.pass_waiting == BATCH as u32 {
@@ -174,7 +175,7 @@ impl CleanAlong {
     }
 
     /// What the clean did so far.
-    fn worked(&self) -> Worked
+    pub fn worked(&self) -> Worked
         ensures value { result ≡ cleans.worked self.now }
     {
         Worked {
@@ -231,7 +232,7 @@ impl CleanAlong {
 
 impl Clean {
     /// A clean that begins. It loads the level first.
-    pub(crate) fn begun(level: u8) -> Clean
+    pub fn begun(level: u8) -> Clean
         ensures along { result.along ≡ cleans.begun_clean level }
         ensures stage { result.stage ≡ CleanStage.LoadLevel }
     {
@@ -247,7 +248,7 @@ impl Clean {
     }
 
     /// The next step.
-    pub(crate) fn step(&self) -> Step
+    pub fn step(&self) -> Step
         ensures value { (shape : Shape) → result ≡ (cleans.clean_row shape self.now.along self.now.stage).step }
     {
         let cleaning = &self.along.cleaning;
@@ -269,7 +270,7 @@ impl Clean {
     }
 
     /// Takes the word that the step found; for a store any word. What the poll answers then, if anything.
-    pub(crate) fn got(&mut self, shape: &Shape, word: u64) -> Option<Answer>
+    pub fn got(&mut self, shape: &Shape, word: u64) -> Option<Answer>
         requires shape { IsSound shape.now }
         requires sound { IsSoundClean shape.now self.old.along self.old.stage }
         requires fits { CanBeFound shape.now (cleans.clean_row shape.now self.old.along self.old.stage).step word }
@@ -281,7 +282,7 @@ impl Clean {
     }
 
     /// A poll begins, which counts its full passes anew. What it answers without a step, if anything.
-    pub(crate) fn begin_poll(&mut self) -> Option<Answer>
+    pub fn begin_poll(&mut self) -> Option<Answer>
         ensures value { (self.new.along, self.new.stage, result) ≡ cleans.begins_poll self.old.along self.old.stage }
     {
         self.along.full_passes = 0;

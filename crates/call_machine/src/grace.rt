@@ -17,9 +17,9 @@ pub const LAST_GRACE: u64 = 1 << 63;
 #[derive(Clone, Copy, Debug, PartialEq, Eq)]
 pub struct Grace {
     /// To what the counter was raised.
-    pub(crate) raised: u64,
+    pub raised: u64,
     /// The number whose section word is looked at next.
-    pub(crate) next: u32,
+    pub next: u32,
 }
 
 /// Where a grace stands.
@@ -41,7 +41,7 @@ pub enum Gracing {
 }
 
 /// No grace is begun any more where the last one raised the counter to the bound: the work waits for good.
-pub(crate) fn held_back(raised: u64) -> Option<Answer>
+pub fn held_back(raised: u64) -> Option<Answer>
     ensures value { result ≡ graces.held_back raised }
 {
     if raised >= LAST_GRACE {
@@ -52,7 +52,7 @@ pub(crate) fn held_back(raised: u64) -> Option<Answer>
 }
 
 /// How many graces a work has begun after a step of one: one more where the counter is raised.
-pub(crate) fn counts_grace(stage: GraceStage, before: u64) -> u64
+pub fn counts_grace(stage: GraceStage, before: u64) -> u64
     ensures value { result ≡ graces.counts_grace stage before }
 {
     match stage {
@@ -63,10 +63,10 @@ pub(crate) fn counts_grace(stage: GraceStage, before: u64) -> u64
 
 impl Grace {
     /// No grace has begun.
-    pub(crate) const NONE: Grace = Grace { raised: 0, next: 0 };
+    pub const NONE: Grace = Grace { raised: 0, next: 0 };
 
     /// The step of a stage.
-    pub(crate) fn step(self, stage: GraceStage) -> Step
+    pub fn step(self, stage: GraceStage) -> Step
         ensures value { (seats : ℕ) → result ≡ (graces.grace_row seats self stage).step }
     {
         match stage {
@@ -76,7 +76,7 @@ impl Grace {
     }
 
     /// What comes of the word that was found.
-    pub(crate) fn next(self, seats: u32, stage: GraceStage, word: u64) -> (Grace, Gracing)
+    pub fn next(self, seats: u32, stage: GraceStage, word: u64) -> (Grace, Gracing)
         requires fits { (shape : Shape) × (shape.seats ≡ seats) × IsInside shape (access_of (graces.grace_row seats self stage).step).place × CanBeFound shape (graces.grace_row seats self stage).step word }
         ensures value { result ≡ (graces.grace_row seats self stage).next word }
     {

@@ -27,20 +27,20 @@ pub struct Waiting {
 /// A bucket that is cleaned, and the slots that wait to be freed.
 #[derive(Debug, Drop)]
 pub struct Cleaning {
-    pub(crate) row: u8,
-    pub(crate) bucket: u32,
+    pub row: u8,
+    pub bucket: u32,
     /// The first node of the chain, as the locked head has it.
-    pub(crate) first: Option<u32>,
+    pub first: Option<u32>,
     /// The last node that was passed and stays.
-    pub(crate) last: Option<u32>,
+    pub last: Option<u32>,
     /// The slots that were unlinked and wait to be freed, in the order of their unlinking.
-    pub(crate) waiting: ArrayVec<Waiting, BATCH>,
+    pub waiting: ArrayVec<Waiting, BATCH>,
     /// How many of them the present pass unlinked.
-    pub(crate) pass_waiting: u32,
+    pub pass_waiting: u32,
     /// How many nodes the present pass looked at; 2^32 - 1 stays.
-    pub(crate) passed: u32,
+    pub passed: u32,
     /// How many slots were unlinked; 2^64 - 1 stays.
-    pub(crate) unlinked: u64,
+    pub unlinked: u64,
 }
 
 /// How the dead nodes of a locked bucket are unlinked: the count of a node, with the generation of one
@@ -69,7 +69,8 @@ pub enum FreeStage {
 }
 
 /// The generation of a dead node.
-fn dead_of(word: u64) -> Option<u64>
+#[inline]
+pub fn dead_of(word: u64) -> Option<u64>
     ensures value { result ≡ passes.dead_of word }
 {
     if holds_of(word) == 0 {
@@ -80,7 +81,7 @@ fn dead_of(word: u64) -> Option<u64>
 }
 
 /// At the next node, or at the end of the chain.
-pub(crate) fn passes_on(next: Option<u32>) -> Option<PassStage>
+pub fn passes_on(next: Option<u32>) -> Option<PassStage>
     ensures value { result ≡ passes.passes_on next }
 {
     match next {
@@ -91,7 +92,7 @@ pub(crate) fn passes_on(next: Option<u32>) -> Option<PassStage>
 
 impl Cleaning {
     /// A bucket of which nothing is cleaned yet, and no slot waits.
-    pub(crate) fn none(row: u8, bucket: u32) -> Cleaning
+    pub fn none(row: u8, bucket: u32) -> Cleaning
         ensures value { result ≡ passes.no_cleaning row bucket }
     {
         Cleaning {
@@ -107,7 +108,8 @@ impl Cleaning {
     }
 
     /// The bucket is locked, and this is its first node.
-    pub(crate) fn begin_pass(&mut self, first: Option<u32>)
+    #[inline]
+    pub fn begin_pass(&mut self, first: Option<u32>)
         ensures value { self.new ≡ passes.begins_pass self.old first }
     {
         self.first = first;
@@ -117,7 +119,8 @@ impl Cleaning {
     }
 
     /// The edge that leads to the present node.
-    fn edge(&self) -> Edge
+    #[inline]
+    pub fn edge(&self) -> Edge
         ensures value { result ≡ passes.edge_behind self.now self.now.last }
     {
         match self.last {
@@ -130,7 +133,7 @@ impl Cleaning {
     }
 
     /// The step of a stage of the pass.
-    pub(crate) fn pass_step(&self, stage: PassStage) -> Step
+    pub fn pass_step(&self, stage: PassStage) -> Step
         ensures value { result ≡ (passes.pass_row self.now stage).step }
     {
         match stage {
@@ -145,7 +148,7 @@ impl Cleaning {
     }
 
     /// What comes of the word that a pass found: the next stage, or `None` where the pass is over.
-    pub(crate) fn pass(&mut self, stage: PassStage, word: u64) -> Option<PassStage>
+    pub fn pass(&mut self, stage: PassStage, word: u64) -> Option<PassStage>
         requires room { length self.old.waiting.items < 256 }
         requires counted { self.old.pass_waiting ≤ length self.old.waiting.items }
         requires generation { HasSoundPass stage }
@@ -188,7 +191,8 @@ impl Cleaning {
     }
 
     /// A slot is out of its chain.
-    fn unlink(&mut self, slot: u32, generation: u64, next: Option<u32>)
+    #[inline]
+    pub fn unlink(&mut self, slot: u32, generation: u64, next: Option<u32>)
         requires room { length self.old.waiting.items < 256 }
         requires counted { self.old.pass_waiting ≤ length self.old.waiting.items }
         requires generation { generation < 2 ^ 48 }
@@ -202,6 +206,7 @@ impl Cleaning {
     }
 
     /// An unlinked slot waits to be freed; one of the last generation is never freed.
+    #[inline]
     fn wait(&mut self, slot: u32, generation: u64)
         requires room { length self.old.waiting.items < 256 }
         requires counted { self.old.pass_waiting ≤ length self.old.waiting.items }
@@ -215,7 +220,8 @@ impl Cleaning {
     }
 
     /// The slot of this number of those that wait.
-    fn waiting_at(&self, at: u32) -> Waiting
+    #[inline]
+    pub fn waiting_at(&self, at: u32) -> Waiting
         ensures value { result ≡ passes.waiting_at self.now at }
     {
         match self.waiting.get(at as usize) {
@@ -225,7 +231,7 @@ impl Cleaning {
     }
 
     /// The step of a stage of freeing.
-    pub(crate) fn free_step(&self, stage: FreeStage) -> Step
+    pub fn free_step(&self, stage: FreeStage) -> Step
         ensures value { result ≡ (passes.free_row self.now stage).step }
     {
         match stage {
@@ -240,7 +246,7 @@ impl Cleaning {
     }
 
     /// What comes of a step of freeing: the next stage, or `None` where no slot waits any more.
-    pub(crate) fn free(&mut self, stage: FreeStage) -> Option<FreeStage>
+    pub fn free(&mut self, stage: FreeStage) -> Option<FreeStage>
         requires waits { IsSoundFree self.old stage }
         requires few { length self.old.waiting.items ≤ 256 }
         ensures value { (word : ℕ) → (self.new, result) ≡ (passes.free_row self.old stage).next word }

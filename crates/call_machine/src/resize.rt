@@ -120,26 +120,26 @@ pub enum ResizeStage {
 #[derive(Clone, Copy, Debug, PartialEq, Eq)]
 pub struct ResizeAlong {
     /// The level at the beginning.
-    pub(crate) level: u8,
+    pub level: u8,
     /// The lower bucket of the present pair.
-    pub(crate) bucket: u32,
-    pub(crate) chains: Chains,
+    pub bucket: u32,
+    pub chains: Chains,
     /// The node at which unzipping goes on after the grace.
-    pub(crate) rest: Option<u32>,
+    pub rest: Option<u32>,
     /// How many nodes of the present pair were looked at; 2^32 - 1 stays.
-    pub(crate) passed: u32,
+    pub passed: u32,
     /// The last grace.
-    pub(crate) grace: Grace,
+    pub grace: Grace,
     /// How many graces were begun; 2^64 - 1 stays.
-    pub(crate) graces: u64,
+    pub graces: u64,
 }
 
 /// A grow or a shrink of a table.
 #[derive(Clone, Copy, Debug, PartialEq, Eq)]
 pub struct Resize {
-    pub(crate) direction: Direction,
-    pub(crate) along: ResizeAlong,
-    pub(crate) stage: ResizeStage,
+    pub direction: Direction,
+    pub along: ResizeAlong,
+    pub stage: ResizeStage,
 }
 
 /// What came of a step: the next stage, and what the poll answers, if anything.
@@ -147,7 +147,7 @@ type Went = (ResizeAlong, ResizeStage, Option<Answer>);
 
 impl Resize {
     /// A resize that begins at a level.
-    pub(crate) fn begun(direction: Direction, level: u8) -> Resize
+    pub fn begun(direction: Direction, level: u8) -> Resize
         ensures value { result ≡ record { direction = direction; along = resizes.begun_resize level; stage = ResizeStage.PutNewLevel } }
     {
         Resize {
@@ -158,7 +158,7 @@ impl Resize {
     }
 
     /// The level to which the resize leads.
-    pub(crate) fn end_level(&self) -> u8
+    pub fn end_level(&self) -> u8
         requires sound { (shape : Shape) × IsSound shape × IsSoundResize shape self.now.direction self.now.along self.now.stage }
         ensures value { result ≡ resizes.end_level self.now.direction self.now.along.level }
     {
@@ -166,7 +166,7 @@ impl Resize {
     }
 
     /// What a new poll answers without a step: where no further grace may begin, it waits for good.
-    pub(crate) fn begin_poll(&self) -> Option<Answer>
+    pub fn begin_poll(&self) -> Option<Answer>
         ensures value { result ≡ resizes.resumed self.now.along self.now.stage }
     {
         match self.stage {
@@ -179,7 +179,7 @@ impl Resize {
     }
 
     /// The step of the stage.
-    pub(crate) fn step(&self) -> Step
+    pub fn step(&self) -> Step
         requires sound { (shape : Shape) × IsSound shape × IsSoundResize shape self.now.direction self.now.along self.now.stage }
         ensures value { (shape : Shape) → result ≡ (resizes.resize_row shape self.now.direction self.now.along self.now.stage).step }
     {
@@ -187,7 +187,7 @@ impl Resize {
     }
 
     /// Takes the word that the step found; for a store any word. What the poll answers, if anything.
-    pub(crate) fn got(&mut self, shape: &Shape, word: u64) -> Option<Answer>
+    pub fn got(&mut self, shape: &Shape, word: u64) -> Option<Answer>
         requires table { IsSound shape.now }
         requires sound { IsSoundResize shape.now self.old.direction self.old.along self.old.stage }
         requires fits { CanBeFound shape.now (resizes.resize_row shape.now self.old.direction self.old.along self.old.stage).step word }

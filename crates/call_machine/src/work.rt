@@ -19,7 +19,7 @@ pub enum Work {
 
 impl Work {
     /// The work that a call has begun.
-    pub(crate) fn begun(shape: &Shape, left: Left) -> Option<Work>
+    pub fn begun(shape: &Shape, left: Left) -> Option<Work>
         ensures value { result ≡ begun_work shape.now left }
     {
         match left {
@@ -32,7 +32,7 @@ impl Work {
     }
 
     /// The next step of the work.
-    pub(crate) fn step(&self) -> Step
+    pub fn step(&self) -> Step
         requires sound { (shape : Shape) × IsSound shape × IsSoundWork shape self.now }
         ensures value { (shape : Shape) → result ≡ (work_row shape self.now).step }
     {
@@ -43,7 +43,7 @@ impl Work {
     }
 
     /// Takes the word that the step found; for a store any word. What the poll answers, if anything.
-    pub(crate) fn got(&mut self, shape: &Shape, word: u64) -> Option<Answer>
+    pub fn got(&mut self, shape: &Shape, word: u64) -> Option<Answer>
         requires table { IsSound shape.now }
         requires sound { IsSoundWork shape.now self.old }
         requires fits { CanBeFound shape.now (work_row shape.now self.old).step word }
@@ -56,7 +56,7 @@ impl Work {
     }
 
     /// A new poll begins: what it answers without a step, if anything.
-    pub(crate) fn begin_poll(&mut self) -> Option<Answer>
+    pub fn begin_poll(&mut self) -> Option<Answer>
         ensures value { (self.new, result) ≡ resumes self.old }
     {
         match self {

@@ -14,7 +14,7 @@ use atomic_step::{Answer, Edge, Worked};
 
 impl ResizeAlong {
     /// What goes along with a resize that begins at a level.
-    pub(super) fn begun(level: u8) -> ResizeAlong
+    pub fn begun(level: u8) -> ResizeAlong
         ensures value { result ≡ resizes.begun_resize level }
     {
         ResizeAlong {
@@ -29,7 +29,7 @@ impl ResizeAlong {
     }
 
     /// The bucket of a side of the present pair.
-    pub(super) fn bucket_at(self, direction: Direction, side: Side) -> u32
+    pub fn bucket_at(self, direction: Direction, side: Side) -> u32
         requires sound { (shape : Shape) × IsSound shape × IsSoundResizing shape direction self }
         ensures value { result ≡ resizes.bucket_at direction self side }
     {
@@ -40,7 +40,7 @@ impl ResizeAlong {
     }
 
     /// The end so far of the chain of a side.
-    pub(super) fn end_of(self, direction: Direction, side: Side) -> Edge
+    pub fn end_of(self, direction: Direction, side: Side) -> Edge
         requires sound { (shape : Shape) × IsSound shape × IsSoundResizing shape direction self }
         ensures value { result ≡ resizes.end_of direction self side }
     {
@@ -60,7 +60,7 @@ impl ResizeAlong {
     }
 
     /// A grace comes next, if one may begin.
-    pub(super) fn raises(self, after: AfterGrace) -> Went
+    pub fn raises(self, after: AfterGrace) -> Went
         ensures value { result ≡ resizes.raises self after }
     {
         let stage = ResizeStage::Grace {
@@ -90,7 +90,7 @@ impl ResizeAlong {
     }
 
     /// What came of a step that locks a bucket.
-    pub(super) fn locks_on(self, direction: Direction, side: Side, came: Locking) -> Went
+    pub fn locks_on(self, direction: Direction, side: Side, came: Locking) -> Went
         requires sound { (shape : Shape) × IsSound shape × IsSoundResizing shape direction self }
         ensures value { result ≡ resizes.locks_on direction self side came }
     {
@@ -110,7 +110,7 @@ impl ResizeAlong {
     }
 
     /// A head of the old row is redirected.
-    pub(super) fn redirected(self, direction: Direction, side: Side) -> Went
+    pub fn redirected(self, direction: Direction, side: Side) -> Went
         ensures value { result ≡ resizes.redirected direction self side }
     {
         match (direction, side) {
@@ -144,7 +144,7 @@ impl ResizeAlong {
     }
 
     /// A bucket of the new row is unlocked.
-    pub(super) fn unlocked(self, direction: Direction, side: Side) -> Went
+    pub fn unlocked(self, direction: Direction, side: Side) -> Went
         requires sound { (shape : Shape) × IsSound shape × IsSoundResizing shape direction self }
         ensures value { result ≡ resizes.unlocked direction self side }
     {
@@ -155,7 +155,7 @@ impl ResizeAlong {
     }
 
     /// One more node of the pair was looked at.
-    pub(super) fn looks_at(self) -> ResizeAlong
+    pub fn looks_at(self) -> ResizeAlong
         ensures value { result ≡ resizes.looks_at self }
     {
         ResizeAlong {
@@ -176,7 +176,7 @@ impl ResizeAlong {
     }
 
     /// After a step of a grace, with one more that was begun where the counter is raised.
-    pub(super) fn with_grace(self, grace: Grace, stage: GraceStage) -> ResizeAlong
+    pub fn with_grace(self, grace: Grace, stage: GraceStage) -> ResizeAlong
         ensures value { result ≡ record self { grace = grace; graces = graces.counts_grace stage self.graces } }
     {
         ResizeAlong {
@@ -187,7 +187,7 @@ impl ResizeAlong {
     }
 
     /// What came of a step of a grace.
-    pub(super) fn graces_on(self, after: AfterGrace, came: Gracing) -> Went
+    pub fn graces_on(self, after: AfterGrace, came: Gracing) -> Went
         ensures value { result ≡ resizes.graces_on self after came }
     {
         let stage = ResizeStage::Grace {
@@ -203,7 +203,7 @@ impl ResizeAlong {
     }
 
     /// What a finished resize did.
-    pub(super) fn worked(self, direction: Direction) -> Worked
+    pub fn worked(self, direction: Direction) -> Worked
         requires sound { (shape : Shape) × IsSound shape × IsSoundResizing shape direction self }
         ensures value { result ≡ resizes.worked direction self }
     {

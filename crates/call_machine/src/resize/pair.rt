@@ -10,7 +10,7 @@ use super::{Chain, Chains, Direction, JoinStage, ResizeStage, Side, UnzipStage};
 
 impl Direction {
     /// The level to which a resize leads that begins at this one.
-    pub(super) fn end_level(self, level: u8) -> u8
+    pub fn end_level(self, level: u8) -> u8
         requires level { (shape : Shape) × IsSound shape × LeadsToLevel shape self level }
         ensures value { result ≡ resizes.end_level self level }
     {
@@ -21,7 +21,7 @@ impl Direction {
     }
 
     /// How far the two buckets of a pair are apart.
-    pub(super) fn half(self, level: u8) -> u32
+    pub fn half(self, level: u8) -> u32
         requires level { (shape : Shape) × IsSound shape × LeadsToLevel shape self level }
         ensures value { result ≡ resizes.half self level }
         ensures small { result ≤ 1048576 }
@@ -33,7 +33,7 @@ impl Direction {
     }
 
     /// The first node of a head that is made.
-    pub(super) fn new_first(self, chains: Chains, side: Side) -> Option<u32>
+    pub fn new_first(self, chains: Chains, side: Side) -> Option<u32>
         ensures value { result ≡ resizes.new_first self chains side }
     {
         match self {
@@ -43,7 +43,7 @@ impl Direction {
     }
 
     /// What comes once a head of the new row is written.
-    pub(super) fn after_put(self, chains: Chains, side: Side) -> ResizeStage
+    pub fn after_put(self, chains: Chains, side: Side) -> ResizeStage
         ensures value { result ≡ resizes.after_put self chains side }
     {
         match (self, side) {
@@ -55,7 +55,7 @@ impl Direction {
 }
 
 impl Side {
-    pub(super) fn other(self) -> Side
+    pub fn other(self) -> Side
         ensures value { result ≡ resizes.other self }
     {
         match self {
@@ -65,7 +65,7 @@ impl Side {
     }
 
     /// The side of a text with this hash in the row above a level.
-    pub(super) fn of(level: u8, hash: u32) -> Side
+    pub fn of(level: u8, hash: u32) -> Side
         requires level { level ≤ 20 }
         ensures value { result ≡ resizes.side_of level hash }
     {
@@ -79,7 +79,7 @@ impl Side {
 
 impl Chain {
     /// A chain that begins with this node, of which none was passed.
-    pub(super) fn from(first: Option<u32>) -> Chain
+    pub fn from(first: Option<u32>) -> Chain
         ensures value { result ≡ resizes.chain_from first }
     {
         Chain { first, last: None }
@@ -111,7 +111,7 @@ impl Chain {
 
 impl Chains {
     /// Chains that begin with these nodes.
-    pub(super) fn from(even: Option<u32>, odd: Option<u32>) -> Chains
+    pub fn from(even: Option<u32>, odd: Option<u32>) -> Chains
         ensures value { result ≡ resizes.chains_from even odd }
     {
         Chains {
@@ -121,7 +121,7 @@ impl Chains {
     }
 
     /// The chain of a side.
-    pub(super) fn at(self, side: Side) -> Chain
+    pub fn at(self, side: Side) -> Chain
         ensures value { result ≡ resizes.chain_at self side }
     {
         match side {
@@ -131,7 +131,7 @@ impl Chains {
     }
 
     /// The chains after the end of the other side was moved past a node of this one.
-    pub(super) fn moved(self, slot: u32, side: Side, next: Option<u32>) -> Chains
+    pub fn moved(self, slot: u32, side: Side, next: Option<u32>) -> Chains
         ensures value { result ≡ resizes.moved self slot side next }
     {
         match side {
