@@ -248,7 +248,7 @@ impl Clean {
     }
 
     /// The next step.
-    pub fn step(&self) -> Step
+    pub(crate) fn step(&self) -> Step
         ensures value { (shape : Shape) → result ≡ (cleans.clean_row shape self.now.along self.now.stage).step }
     {
         let cleaning = &self.along.cleaning;
@@ -270,7 +270,7 @@ impl Clean {
     }
 
     /// Takes the word that the step found; for a store any word. What the poll answers then, if anything.
-    pub fn got(&mut self, shape: &Shape, word: u64) -> Option<Answer>
+    pub(crate) fn got(&mut self, shape: &Shape, word: u64) -> Option<Answer>
         requires shape { IsSound shape.now }
         requires sound { IsSoundClean shape.now self.old.along self.old.stage }
         requires fits { CanBeFound shape.now (cleans.clean_row shape.now self.old.along self.old.stage).step word }
@@ -282,7 +282,7 @@ impl Clean {
     }
 
     /// A poll begins, which counts its full passes anew. What it answers without a step, if anything.
-    pub fn begin_poll(&mut self) -> Option<Answer>
+    pub(crate) fn begin_poll(&mut self) -> Option<Answer>
         ensures value { (self.new.along, self.new.stage, result) ≡ cleans.begins_poll self.old.along self.old.stage }
     {
         self.along.full_passes = 0;

@@ -41,7 +41,7 @@ pub enum Gracing {
 }
 
 /// No grace is begun any more where the last one raised the counter to the bound: the work waits for good.
-pub fn held_back(raised: u64) -> Option<Answer>
+pub(crate) fn held_back(raised: u64) -> Option<Answer>
     ensures value { result ≡ graces.held_back raised }
 {
     if raised >= LAST_GRACE {
@@ -52,7 +52,7 @@ pub fn held_back(raised: u64) -> Option<Answer>
 }
 
 /// How many graces a work has begun after a step of one: one more where the counter is raised.
-pub fn counts_grace(stage: GraceStage, before: u64) -> u64
+pub(crate) fn counts_grace(stage: GraceStage, before: u64) -> u64
     ensures value { result ≡ graces.counts_grace stage before }
 {
     match stage {
@@ -66,7 +66,7 @@ impl Grace {
     pub const NONE: Grace = Grace { raised: 0, next: 0 };
 
     /// The step of a stage.
-    pub fn step(self, stage: GraceStage) -> Step
+    pub(crate) fn step(self, stage: GraceStage) -> Step
         ensures value { (seats : ℕ) → result ≡ (graces.grace_row seats self stage).step }
     {
         match stage {
@@ -76,7 +76,7 @@ impl Grace {
     }
 
     /// What comes of the word that was found.
-    pub fn next(self, seats: u32, stage: GraceStage, word: u64) -> (Grace, Gracing)
+    pub(crate) fn next(self, seats: u32, stage: GraceStage, word: u64) -> (Grace, Gracing)
         requires fits { (shape : Shape) × (shape.seats ≡ seats) × IsInside shape (access_of (graces.grace_row seats self stage).step).place × CanBeFound shape (graces.grace_row seats self stage).step word }
         ensures value { result ≡ (graces.grace_row seats self stage).next word }
     {

@@ -28,7 +28,7 @@ pub enum Locking {
 
 impl LockStage {
     /// The step of the stage, at this bucket.
-    pub fn step(self, row: u8, bucket: u32) -> Step
+    pub(crate) fn step(self, row: u8, bucket: u32) -> Step
         ensures value { result ≡ (lock.lock_row row bucket self).step }
     {
         match self {
@@ -38,7 +38,7 @@ impl LockStage {
     }
 
     /// What comes of the word that was found.
-    pub fn next(self, row: u8, bucket: u32, word: u64) -> Locking
+    pub(crate) fn next(self, row: u8, bucket: u32, word: u64) -> Locking
         requires fits { (shape : Shape) × IsSound shape × CanBeFound shape (lock.lock_row row bucket self).step word }
         ensures value { result ≡ (lock.lock_row row bucket self).next word }
     {

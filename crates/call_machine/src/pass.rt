@@ -81,7 +81,7 @@ pub fn dead_of(word: u64) -> Option<u64>
 }
 
 /// At the next node, or at the end of the chain.
-pub fn passes_on(next: Option<u32>) -> Option<PassStage>
+pub(crate) fn passes_on(next: Option<u32>) -> Option<PassStage>
     ensures value { result ≡ passes.passes_on next }
 {
     match next {
@@ -133,7 +133,7 @@ impl Cleaning {
     }
 
     /// The step of a stage of the pass.
-    pub fn pass_step(&self, stage: PassStage) -> Step
+    pub(crate) fn pass_step(&self, stage: PassStage) -> Step
         ensures value { result ≡ (passes.pass_row self.now stage).step }
     {
         match stage {
@@ -148,7 +148,7 @@ impl Cleaning {
     }
 
     /// What comes of the word that a pass found: the next stage, or `None` where the pass is over.
-    pub fn pass(&mut self, stage: PassStage, word: u64) -> Option<PassStage>
+    pub(crate) fn pass(&mut self, stage: PassStage, word: u64) -> Option<PassStage>
         requires room { length self.old.waiting.items < 256 }
         requires counted { self.old.pass_waiting ≤ length self.old.waiting.items }
         requires generation { HasSoundPass stage }
@@ -231,7 +231,7 @@ impl Cleaning {
     }
 
     /// The step of a stage of freeing.
-    pub fn free_step(&self, stage: FreeStage) -> Step
+    pub(crate) fn free_step(&self, stage: FreeStage) -> Step
         ensures value { result ≡ (passes.free_row self.now stage).step }
     {
         match stage {
@@ -246,7 +246,7 @@ impl Cleaning {
     }
 
     /// What comes of a step of freeing: the next stage, or `None` where no slot waits any more.
-    pub fn free(&mut self, stage: FreeStage) -> Option<FreeStage>
+    pub(crate) fn free(&mut self, stage: FreeStage) -> Option<FreeStage>
         requires waits { IsSoundFree self.old stage }
         requires few { length self.old.waiting.items ≤ 256 }
         ensures value { (word : ℕ) → (self.new, result) ≡ (passes.free_row self.old stage).next word }

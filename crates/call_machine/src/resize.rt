@@ -158,7 +158,7 @@ impl Resize {
     }
 
     /// The level to which the resize leads.
-    pub fn end_level(&self) -> u8
+    pub(crate) fn end_level(&self) -> u8
         requires sound { (shape : Shape) × IsSound shape × IsSoundResize shape self.now.direction self.now.along self.now.stage }
         ensures value { result ≡ resizes.end_level self.now.direction self.now.along.level }
     {
@@ -166,7 +166,7 @@ impl Resize {
     }
 
     /// What a new poll answers without a step: where no further grace may begin, it waits for good.
-    pub fn begin_poll(&self) -> Option<Answer>
+    pub(crate) fn begin_poll(&self) -> Option<Answer>
         ensures value { result ≡ resizes.resumed self.now.along self.now.stage }
     {
         match self.stage {
@@ -179,7 +179,7 @@ impl Resize {
     }
 
     /// The step of the stage.
-    pub fn step(&self) -> Step
+    pub(crate) fn step(&self) -> Step
         requires sound { (shape : Shape) × IsSound shape × IsSoundResize shape self.now.direction self.now.along self.now.stage }
         ensures value { (shape : Shape) → result ≡ (resizes.resize_row shape self.now.direction self.now.along self.now.stage).step }
     {
@@ -187,7 +187,7 @@ impl Resize {
     }
 
     /// Takes the word that the step found; for a store any word. What the poll answers, if anything.
-    pub fn got(&mut self, shape: &Shape, word: u64) -> Option<Answer>
+    pub(crate) fn got(&mut self, shape: &Shape, word: u64) -> Option<Answer>
         requires table { IsSound shape.now }
         requires sound { IsSoundResize shape.now self.old.direction self.old.along self.old.stage }
         requires fits { CanBeFound shape.now (resizes.resize_row shape.now self.old.direction self.old.along self.old.stage).step word }

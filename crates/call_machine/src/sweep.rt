@@ -54,9 +54,9 @@ pub enum SweepStage {
 /// What goes along with a sweep.
 #[derive(Debug, Drop)]
 pub struct SweepAlong {
-    pub(crate) walk: Walk,
-    pub(crate) cleaning: Cleaning,
-    pub(crate) grace: Grace,
+    pub walk: Walk,
+    pub cleaning: Cleaning,
+    pub grace: Grace,
 }
 
 /// What contracts see of a sweep on its way. No value of it is made.

@@ -19,7 +19,7 @@ pub enum Work {
 
 impl Work {
     /// The work that a call has begun.
-    pub fn begun(shape: &Shape, left: Left) -> Option<Work>
+    pub(crate) fn begun(shape: &Shape, left: Left) -> Option<Work>
         ensures value { result ≡ begun_work shape.now left }
     {
         match left {
@@ -43,7 +43,7 @@ impl Work {
     }
 
     /// Takes the word that the step found; for a store any word. What the poll answers, if anything.
-    pub fn got(&mut self, shape: &Shape, word: u64) -> Option<Answer>
+    pub(crate) fn got(&mut self, shape: &Shape, word: u64) -> Option<Answer>
         requires table { IsSound shape.now }
         requires sound { IsSoundWork shape.now self.old }
         requires fits { CanBeFound shape.now (work_row shape.now self.old).step word }
@@ -56,7 +56,7 @@ impl Work {
     }
 
     /// A new poll begins: what it answers without a step, if anything.
-    pub fn begin_poll(&mut self) -> Option<Answer>
+    pub(crate) fn begin_poll(&mut self) -> Option<Answer>
         ensures value { (self.new, result) ≡ resumes self.old }
     {
         match self {

@@ -2,6 +2,7 @@
 use Rattle.std.proofs.Common.{ℕ, List, ◌++◌, subst, inl, inr, append_assoc}
 use Rattle.intern_log.specs.declared.event.Event.{Event}
 use Rattle.intern_log.specs.declared.event.Handle.{Handle}
+use Rattle.intern_log.specs.declared.event.Kind.{Kind}
 use Rattle.intern_log.specs.Sections.{IsCreatedAs}
 use Rattle.atomic_step.specs.Count.{handle_at}
 use Rattle.atomic_step.specs.declared.answer.Answer.{Answer}
@@ -35,17 +36,17 @@ module _ (t : Table) (i : ℕ) (seen window more : List Event) where
     subst (λ l. IsCreatedAs l text h.0) (append_assoc seen window more) (created_longer (seen ++ window) more text h.0 h.2),
   )
 
-  lost_on : (goal : Goal) (text : List ℕ) → LostBy goal t i text seen window → LostBy goal t i text seen (window ++ more)
-  lost_on Lookup text h = count_lost_on text h
-  lost_on Intern text h = elim h [
-    | inl count ↦ inl (count_lost_on text count)
+  lost_on : (goal : Goal) (kind : Kind) (text : List ℕ) → LostBy goal kind t i text seen window → LostBy goal kind t i text seen (window ++ more)
+  lost_on Lookup kind text h = (h.0, count_lost_on text h.1)
+  lost_on Intern kind text h = elim h [
+    | inl count ↦ inl (count.0, count_lost_on text count.1)
     | inr head ↦ inr (head.0, somewhere_on seen window (IsRowIn t head.0) more head.1, another_on seen window i (IsOnHome t head.0 text) more head.2)
   ]
-  lost_on InternWait text h = absurd h
+  lost_on InternWait kind text h = absurd h
 
   walk_ends_on : (q : Asked) (a : Answer) → WalkEnds t i q seen window a → WalkEnds t i q seen (window ++ more) a
   walk_ends_on q answer.Miss h = somewhere_on seen window (IsAbsent q.text) more h
-  walk_ends_on q answer.Again h = lost_on q.goal q.text h
+  walk_ends_on q answer.Again h = lost_on q.goal q.kind q.text h
   walk_ends_on q answer.Locked h = somewhere_on seen window (IsTextLocked t q.text) more h
   walk_ends_on q answer.NoSlot h = (somewhere_on seen window (IsAbsent q.text) more h.0, λ slot inside. somewhere_on seen window (IsTaken t slot) more (h.1 slot inside))
   walk_ends_on q _ h = tt
@@ -78,7 +79,7 @@ module _ (t : Table) (i : ℕ) (seen window more : List Event) where
   call_on way load q w (stage.Leave s) h = then_ends_on way q (then_of s) h
   call_on way load q w (stage.Draw s) h = h
   call_on way load q w (stage.Find s) h = h
-  call_on way load q w (stage.Node (node.Take slot count)) h = (h.0, somewhere_on seen window (IsWordOf q.text (handle_at slot count) count) more h.1)
+  call_on way load q w (stage.Node (node.Take slot count)) h = (h.0, somewhere_on seen window (IsWordOf q.text (handle_at slot count) count) more h.1, h.2)
   call_on way load q w (stage.Node _) h = (h.0, head_found_on load q.text w.walk h.1)
   call_on way load q w (stage.Insert (insert.Claim slot tried)) h =
       (h.0, h.1, h.2, somewhere_on seen window (IsAbsent q.text) more h.3, λ x before. somewhere_on seen window (IsTaken t x) more (h.4 x before), somewhere_on seen window (IsRowIn t w.walk.row) more h.5)

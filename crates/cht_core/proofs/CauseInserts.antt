@@ -148,7 +148,7 @@ module _ (t : Table) (i : ℕ) (way : Way) (seen window : List Event) (f : Flow)
       (λ same. of_walk t i way seen window q walks (answer.Created k) tt) (λ other. beaten load w k word q.goal refl h.1 (λ is. lost is (not_equal word w.walk.head other)))
     where
       again : q.goal ≡ Intern → word ≢ w.walk.head → WalkEnds t i q seen window answer.Again
-      again is other = subst (λ g. LostBy g t i q.text seen window) (sym is) (elim hears.2 [
+      again is other = subst (λ g. LostBy g q.kind t i q.text seen window) (sym is) (elim hears.2 [
         | inl same ↦ absurd (other same)
         | inr moved ↦ inr (w.walk.row, h.3, another_since i load (IsOnHome t w.walk.row q.text) seen window h.2 moved)
       ])

@@ -1,14 +1,26 @@
 -- What a try call itself did in its window, from its beginning to its answer; and that callers see nothing of a work.
-use Rattle.std.proofs.Common.{◌≡◌, ℕ, ◌+◌, ◌≤◌, Bool, true, false, cond, List, [], ◌∷◌, ◌++◌, Option, Some, None, refl, sym, ap, subst, ◌∙◌, arith, append-nil}
+use Rattle.std.proofs.Common.{◌≡◌, ℕ, ◌+◌, ◌≤◌, ◌==◌, Bool, true, false, cond, List, [], ◌∷◌, ◌++◌, Option, Some, None, refl, sym, ap, subst, ◌∙◌, arith, append-nil}
 use Rattle.std.specs.Prelude.{IfSome}
 use Rattle.std.specs.List.{filter}
 use Rattle.std.proofs.lemmas.List.Elements.{filter-append}
 use Rattle.intern_log.specs.declared.event.Event.{Event}
+use Rattle.intern_log.specs.declared.event.Handle.{Handle}
+use Rattle.intern_log.specs.declared.event.Kind.TheVariants.{Counted, Weak}
 use Rattle.intern_log.specs.declared.event.What.{What}
 use Rattle.intern_log.specs.Own.{is_visible}
 use Rattle.atomic_step.specs.declared.answer.Answer.{Answer}
 use Rattle.atomic_step.specs.declared.answer.Answer.TheVariants as answer
+use Rattle.atomic_step.specs.declared.count.Change.{Change}
+use Rattle.atomic_step.specs.declared.count.Change.TheVariants.{Drop, Permanent, Kill}
+use Rattle.atomic_step.specs.declared.plan.Plan.{Plan}
 use Rattle.atomic_step.specs.declared.plan.Plan.TheVariants as plan
+use Rattle.atomic_step.specs.declared.step.Step.{Step}
+use Rattle.atomic_step.specs.declared.step.Step.TheVariants as step
+use Rattle.atomic_step.specs.Count.{holds_of}
+use Rattle.atomic_step.specs.Event.{change_of}
+use Rattle.atomic_step.specs.Event.{event_of as event_at}
+use Rattle.atomic_step.specs.Turn.{event_by}
+use Rattle.atomic_step.proofs.Choices.{either_way}
 use Rattle.atomic_step.specs.Monitor.{after_one, after_all, seen, section, slot}
 use Rattle.call_machine.specs.declared.stage.Calling.{Calling}
 use Rattle.call_machine.specs.declared.stage.CallStage.{CallStage}
@@ -26,7 +38,7 @@ use Rattle.call_machine.proofs.CallEvents.{section_law, slot_law, made_law, no_w
 use Rattle.call_machine.proofs.Quiet.{hidden_law}
 use Rattle.call_machine.proofs.WholeCall.{begins_outside, begins_free, made_begins_law, made_answered_law, outside_at_end, none_at_end}
 use Rattle.cht_core.specs.Causes.{IsUnseen}
-use Rattle.cht_core.specs.CauseCalls.{AreOfCall, Owns, ClaimsNone, Did}
+use Rattle.cht_core.specs.CauseCalls.{IsNoRehash, AreOfCall, Owns, ClaimsNone, Did}
 use Rattle.cht_core.specs.Invariant.{events_of}
 use Rattle.cht_core.specs.Windows.{whats_by}
 use Rattle.cht_core.proofs.Windows.{whats_of, whats_by_waits, whats_by_step}
@@ -70,10 +82,34 @@ claims_one : (e : Option What) → claims_in (whats_of e) ≡ claims_of e
 claims_one None = refl
 claims_one (Some w) = omega arith
 
-calls_more : (events : List What) (e : Option What) → AreOfCall events → IfSome e IsOfCall → AreOfCall (events ++ whats_of e)
-calls_more [] None so one = tt
-calls_more [] (Some w) so one = (one, tt)
-calls_more (x ∷ events) e so one = (so.0, calls_more events e so.1 one)
+calls_more : (events : List What) (e : Option What) → AreOfCall events → IfSome e IsOfCall → IfSome e IsNoRehash → AreOfCall (events ++ whats_of e)
+calls_more [] None so one none = tt
+calls_more [] (Some w) so one none = ((one, none), tt)
+calls_more (x ∷ events) e so one none = (so.0, calls_more events e so.1 one none)
+
+-- no step rehashes
+changes_no_seed : (change : Change) (h : Handle) → IsNoRehash (change_of change h)
+changes_no_seed Drop h = tt
+changes_no_seed Permanent h = tt
+changes_no_seed Kill h = tt
+
+step_no_rehash : (text : List ℕ) (s : Step) (word : ℕ) → IfSome (event_at text s word) IsNoRehash
+step_no_rehash text (step.SeeEntry Weak slot) word = either_way (λ e. IfSome e IsNoRehash) (holds_of word == 0) _ _ tt tt
+step_no_rehash text (step.SeeEntry Counted slot) word = tt
+step_no_rehash text (step.SeeHandle Drop h) word = either_way (λ e. IfSome e IsNoRehash) (holds_of word == 65535) _ _ tt tt
+step_no_rehash text (step.SeeHandle Permanent h) word = tt
+step_no_rehash text (step.SeeHandle Kill h) word = tt
+step_no_rehash text (step.TakeEntry slot count) word = either_way (λ e. IfSome e IsNoRehash) (word == count) _ _ tt tt
+step_no_rehash text (step.ChangeEntry change h count) word = either_way (λ e. IfSome e IsNoRehash) (word == count) _ _ (changes_no_seed change h) tt
+step_no_rehash text (step.ClaimSlot slot) word = either_way (λ e. IfSome e IsNoRehash) (word == 0) _ _ tt tt
+step_no_rehash text (step.CreateEntry h row bucket head) word = either_way (λ e. IfSome e IsNoRehash) (word == head) _ _ tt tt
+step_no_rehash text (step.LockHead row bucket head) word = either_way (λ e. IfSome e IsNoRehash) (word == head) _ _ tt tt
+step_no_rehash text (step.TakeResizeLock number) word = either_way (λ e. IfSome e IsNoRehash) (word == 0) _ _ tt tt
+step_no_rehash text _ word = tt
+
+no_rehash : (text : List ℕ) (p : Plan) (word : ℕ) → IfSome (event_by text p word) IsNoRehash
+no_rehash text (plan.Answered a) word = tt
+no_rehash text (plan.Step s) word = step_no_rehash text s word
 
 -- FROM THE BEGINNING TO THE ANSWER
 
@@ -127,7 +163,7 @@ owns_steps i window c word sound fits h =
           let both = claims_pieces (whats_by i window) (whats_of (event_of c word)) in
           let one = claims_one (event_of c word) in
           omega (arith, used, were, both, one));
-      calls = subst AreOfCall more (calls_more (whats_by i window) (event_of c word) h.calls (no_work_law c word));
+      calls = subst AreOfCall more (calls_more (whats_by i window) (event_of c word) h.calls (no_work_law c word) (no_rehash c.asked.text (plan_of c) word));
     }
 
 none_claimed : (i : ℕ) (window : List Event) (c : Calling) (a : Answer) → c.stage ≡ stage.Answered a → Owns i window c → ClaimsNone a (whats_by i window)

@@ -65,15 +65,15 @@ module _ (t : Table) (i : ℕ) (way : Way) (seen window : List Event) (q : Asked
   leaving load w (Some k) a h = of_walk a h
 
   -- a count was lost: the walk gives up, or tries again
-  pub losing : (load : ℕ) (w : Along) (kept : Option Handle) → CountLost i q.text seen window → CallCaused t i way seen window load q w (loses_with q.goal kept answer.Again)
-  losing load w kept lost = go q.goal refl
+  pub losing : (load : ℕ) (w : Along) (kept : Option Handle) → q.kind ≡ Counted → CountLost i q.text seen window → CallCaused t i way seen window load q w (loses_with q.goal kept answer.Again)
+  losing load w kept counted lost = go q.goal refl
     where
-      its : (goal : Goal) → q.goal ≡ goal → LostBy goal t i q.text seen window → WalkEnds t i q seen window answer.Again
-      its goal is h = subst (λ g. LostBy g t i q.text seen window) (sym is) h
+      its : (goal : Goal) → q.goal ≡ goal → LostBy goal q.kind t i q.text seen window → WalkEnds t i q seen window answer.Again
+      its goal is h = subst (λ g. LostBy g q.kind t i q.text seen window) (sym is) h
 
       go : (goal : Goal) → q.goal ≡ goal → CallCaused t i way seen window load q w (loses_with goal kept answer.Again)
-      go Lookup is = leaving load w kept answer.Again (its Lookup is lost)
-      go Intern is = leaving load w kept answer.Again (its Intern is (inl lost))
+      go Lookup is = leaving load w kept answer.Again (its Lookup is (counted, lost))
+      go Intern is = leaving load w kept answer.Again (its Intern is (inl (counted, lost)))
       go InternWait is = walks
 
   -- at the end of a chain without a match
@@ -148,9 +148,10 @@ module _ (t : Table) (i : ℕ) (way : Way) (seen window : List Event) (f : Flow)
   leaves load w a h = leaving t i way seen window q walks load w w.kept a h
 
   module _ (tidy : IsTidy t (now_in t (seen ++ window))) (unseen : IsUnseen i window) where
-    matching : (load : ℕ) (w : Along) (x word : ℕ) (kind : Kind) → Somewhere (IsWordOf q.text (handle_at x word) word) seen window → CallCaused t i way seen window load q w (matches q w kind x word)
-    matching load w x word Counted is = (walks, is)
-    matching load w x word Weak is = leaves load w (met Weak q.goal (handle_at x word)) (met_so Weak q.goal (handle_at x word))
+    matching : (load : ℕ) (w : Along) (x word : ℕ) (kind : Kind) → q.kind ≡ kind → Somewhere (IsWordOf q.text (handle_at x word) word) seen window →
+        CallCaused t i way seen window load q w (matches q w kind x word)
+    matching load w x word Counted of is = (walks, is, of)
+    matching load w x word Weak of is = leaves load w (met Weak q.goal (handle_at x word)) (met_so Weak q.goal (handle_at x word))
 
     -- at a node, by a word that is found
     pub node_found : (load : ℕ) (w : Along) (s : NodeStage) (word : ℕ) → CallCaused t i way seen window load q w (stage.Node s) → PlanSays t Then f (plan_at q w (stage.Node s)) word →
@@ -162,7 +163,7 @@ module _ (t : Table) (i : ℕ) (way : Way) (seen window : List Event) (f : Flow)
         either_way (λ n. CallCaused t i way seen window load q w (stage.Node n)) (word == word_at q.text at) (compares_from q.text x (at + 1)) (node.Link x) (comparing load w x (at + 1) h.1) h
     node_found load w (node.Count x) word h says hears =
         where_it_is (λ s. CallCaused t i way seen window load q w s) (holds_of word == 0) (stage.Node (node.Link x)) (matches q w q.kind x word) (λ none. h)
-        (λ some. matching load w x word q.kind (at_end seen window (IsWordOf q.text (handle_at x word) word) (its (not_equal (holds_of word) 0 some))))
+        (λ some. matching load w x word q.kind refl (at_end seen window (IsWordOf q.text (handle_at x word) word) (its (not_equal (holds_of word) 0 some))))
       where
         its : holds_of word ≢ 0 → IsWordOf q.text (handle_at x word) word (seen ++ window)
         its some =
@@ -174,7 +175,7 @@ module _ (t : Table) (i : ℕ) (way : Way) (seen window : List Event) (f : Flow)
     node_found load w (node.Take x count) word h says hears =
         where_it_is (λ s. CallCaused t i way seen window load q w s) (word == count) (leaves_with w.kept (met Counted q.goal (handle_at x count))) (loses_with q.goal w.kept answer.Again)
         (λ same. leaves load w (met Counted q.goal (handle_at x count)) (met_so Counted q.goal (handle_at x count)))
-        (λ other. losing t i way seen window q walks load w w.kept (
+        (λ other. losing t i way seen window q walks load w w.kept h.2 (
           handle_at x count,
           count_lost t i seen window told tidy q.text (handle_at x count) count word unseen h.1 says (not_equal word count other),
           created_at t i seen window told q.text (handle_at x count) count h.1,

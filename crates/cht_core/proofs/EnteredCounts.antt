@@ -117,7 +117,7 @@ linked_before n i (what.Unlink x) s text h at is = elim (cases_eq s x) [
 linked_before n i _ s text h at is = inl is
 
 -- a list on which no node is twice is one longer than without one of its nodes
-one_shorter : (x : ℕ) (nodes : List ℕ) → Once nodes → On x nodes → length nodes ≡ length (without x nodes) + 1
+pub one_shorter : (x : ℕ) (nodes : List ℕ) → Once nodes → On x nodes → length nodes ≡ length (without x nodes) + 1
 one_shorter x [] once on = absurd on
 one_shorter x (y ∷ nodes) once on = elim (cases_eq y x) [
   | inl same ↦ (

@@ -33,7 +33,7 @@ resize_came : (shape : Shape) (r : Resize) (came : resize.Went) → IsOnWork sha
 resize_came shape r (w, s, None) = tt
 resize_came shape r (w, s, Some a) = tt
 
-work_after : (shape : Shape) (w : Work) (word : ℕ) → HasFewPasses shape w → let came = (work_row shape w).next word in IsOnWork shape came.0 came.1
+pub work_after : (shape : Shape) (w : Work) (word : ℕ) → HasFewPasses shape w → let came = (work_row shape w).next word in IsOnWork shape came.0 came.1
 work_after shape (work.Clean c) word few = clean_came shape ((clean.clean_row shape c.along c.stage).next word) (few_step shape c.along c.stage word few)
 work_after shape (work.Resize r) word few = resize_came shape r ((resize.resize_row shape r.direction r.along r.stage).next word)
 
@@ -54,11 +54,11 @@ on_poll_after shape k word is on = subst (IsOnPollOf shape) (sym (got_is k word)
 
 -- A BEGINNING
 
-on_work : (shape : Shape) (w : Work) (a : Option Answer) → HasFewPasses shape w → IsOnWork shape w a
+pub on_work : (shape : Shape) (w : Work) (a : Option Answer) → HasFewPasses shape w → IsOnWork shape w a
 on_work shape w None few = few
 on_work shape w (Some a) few = tt
 
-begun_few : (shape : Shape) (w : Work) → HasFewPasses shape (resumes w).0
+pub begun_few : (shape : Shape) (w : Work) → HasFewPasses shape (resumes w).0
 begun_few shape (work.Clean c) = omega arith
 begun_few shape (work.Resize r) = tt
 

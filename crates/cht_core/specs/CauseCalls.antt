@@ -6,8 +6,10 @@ use Rattle.marked_word.specs.Link.{node_of}
 use Rattle.intern_log.specs.declared.event.Entry.{Entry}
 use Rattle.intern_log.specs.declared.event.Event.{Event}
 use Rattle.intern_log.specs.declared.event.Handle.{Handle}
-use Rattle.intern_log.specs.declared.event.Kind.TheVariants.{Weak}
+use Rattle.intern_log.specs.declared.event.Kind.{Kind}
+use Rattle.intern_log.specs.declared.event.Kind.TheVariants.{Counted, Weak}
 use Rattle.intern_log.specs.declared.event.What.{What}
+use Rattle.intern_log.specs.declared.event.What.TheVariants as what
 use Rattle.intern_log.specs.Buckets.{bucket_of}
 use Rattle.intern_log.specs.CauseEvents.{IsVisibleOn, IsCreateUnlinkOrLockOn}
 use Rattle.intern_log.specs.Log.{map_of}
@@ -91,16 +93,16 @@ CountLost i text seen window = (h : Handle) × Another i (IsOnHandle h) seen win
 abbrev pub HeadLost : Table → ℕ → List ℕ → List Event → List Event → Type 0
 HeadLost t i text seen window = (row : ℕ) × Somewhere (IsRowIn t row) seen window × Another i (IsOnHome t row text) seen window
 
--- what a walk that gives up has lost: an intern that waits does not give up
-abbrev pub LostBy : Goal → Table → ℕ → List ℕ → List Event → List Event → Type 0
-LostBy Lookup t i text seen window = CountLost i text seen window
-LostBy Intern t i text seen window = CountLost i text seen window ⊎ HeadLost t i text seen window
-LostBy InternWait t i text seen window = ⊥
+-- what a walk that gives up has lost: a count in a counted table alone; an intern that waits does not give up
+abbrev pub LostBy : Goal → Kind → Table → ℕ → List ℕ → List Event → List Event → Type 0
+LostBy Lookup kind t i text seen window = (kind ≡ Counted) × CountLost i text seen window
+LostBy Intern kind t i text seen window = ((kind ≡ Counted) × CountLost i text seen window) ⊎ HeadLost t i text seen window
+LostBy InternWait kind t i text seen window = ⊥
 
 -- why a walk answers so: it misses where the text was absent, and finds no slot where each was taken as well
 abbrev pub WalkEnds : Table → ℕ → Asked → List Event → List Event → Answer → Type 0
 WalkEnds t i q seen window answer.Miss = Somewhere (IsAbsent q.text) seen window
-WalkEnds t i q seen window answer.Again = LostBy q.goal t i q.text seen window
+WalkEnds t i q seen window answer.Again = LostBy q.goal q.kind t i q.text seen window
 WalkEnds t i q seen window answer.Locked = Somewhere (IsTextLocked t q.text) seen window
 WalkEnds t i q seen window answer.NoSlot = Somewhere (IsAbsent q.text) seen window × ((slot : ℕ) → slot < t.shape.slots → Somewhere (IsTaken t slot) seen window)
 WalkEnds t i q seen window _ = Unit {0}
@@ -151,7 +153,7 @@ CallCaused t i way seen window load q w (stage.Answered a) = CallEnds t i way q 
 CallCaused t i way seen window load q w (stage.Leave s) = ThenEnds t i way q seen window (then_of s)
 CallCaused t i way seen window load q w (stage.Draw s) = way ≡ Splits
 CallCaused t i way seen window load q w (stage.Find s) = way ≡ Walks
-CallCaused t i way seen window load q w (stage.Node (node.Take slot count)) = (way ≡ Walks) × Somewhere (IsWordOf q.text (handle_at slot count) count) seen window
+CallCaused t i way seen window load q w (stage.Node (node.Take slot count)) = (way ≡ Walks) × Somewhere (IsWordOf q.text (handle_at slot count) count) seen window × (q.kind ≡ Counted)
 CallCaused t i way seen window load q w (stage.Node s) = (way ≡ Walks) × HeadFound t seen window load q.text w.walk
 CallCaused t i way seen window load q w (stage.Insert (insert.Claim slot tried)) = (way ≡ Walks) × IsIntern q.goal × (length seen ≤ load)
     × Somewhere (IsAbsent q.text) seen window × ((x : ℕ) → IsTried t.shape.slots slot tried x → Somewhere (IsTaken t x) seen window) × Somewhere (IsRowIn t w.walk.row) seen window
@@ -186,10 +188,15 @@ CallHears t p f i load log q w (stage.Insert (insert.Create h)) word =
 CallHears t p f i load log q w (stage.Handle (handle.Exchange change.Kill count)) word = t.kind ≡ Weak
 CallHears t p f i load log q w _ word = Unit {0}
 
+-- a Rehash is by who has the table alone, between its calls
+abbrev pub IsNoRehash : What → Type 0
+IsNoRehash (what.Rehash seed) = ⊥
+IsNoRehash _ = Unit {0}
+
 -- each of the events is one that a call may have
 abbrev pub AreOfCall : List What → Type 0
 AreOfCall [] = Unit {0}
-AreOfCall (e ∷ events) = IsOfCall e × AreOfCall events
+AreOfCall (e ∷ events) = (IsOfCall e × IsNoRehash e) × AreOfCall events
 
 -- what the call itself did in its window: callers see what it has made so far, its Opens and Closes come in pairs, each Claim but that of the
 -- slot that it has now is followed by its Create or its Free, there is one Claim at most, and nothing is done that only works do

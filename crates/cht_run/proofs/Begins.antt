@@ -49,7 +49,8 @@ use Rattle.cht_run.specs.declared.sight.Origin.{Origin}
 use Rattle.cht_run.specs.declared.sight.Sight.{Sight}
 use Rattle.cht_run.specs.Begins.{own_at, is_over, is_resting, first_of, begun, MayCall}
 use Rattle.cht_run.specs.History.{log_of, by_of, NoneBy}
-use Rattle.cht_run.specs.Rule.{view_of, is_seat, Owns, HeadedIn, ReadsIn, IsNew, IsPart, Fits, IsSnapshot, Kept}
+use Rattle.cht_run.specs.Rule.{view_of, is_seat, Owns, HeadedIn, ReadsIn, SeatCovers, IsNew, IsPart, Fits, IsSnapshot, Kept}
+use Rattle.cht_run.proofs.CoversFirst.{covers_begins}
 use Rattle.cht_run.proofs.ReadKept.{reads_begins}
 use Rattle.cht_run.proofs.Histories.{log-append}
 use Rattle.cht_run.proofs.Steps.{Seats, part_of}
@@ -69,7 +70,8 @@ module _ (o : Origin) (s : Seats) (k : Kept o s) (id : ℕ) (v : Sight) (at : ge
 
   -- the rule holds where the seat alone has moved in the core
   module _ (seat' : ℕ → Option View) (inv : Inv o.table mem seat' (log_of k.history)) (own : seat' v.number ≡ Some (view_of now)) (other : (j : ℕ) → j ≢ v.number → seat' j ≡ k.seat j)
-      (rests : HasResting x) (headed : HeadedIn o mem v.number v.load (log_of k.history) x) (reads : ReadsIn o mem (log_of k.history) x) where
+      (rests : HasResting x) (headed : HeadedIn o mem v.number v.load (log_of k.history) x) (reads : ReadsIn o mem (log_of k.history) x)
+      (covers : SeatCovers mem (now_in o.table (log_of k.history)) passed x) where
     placed : k.seat v.number ≡ Some (view_of v)
     placed = (part_of o mem k.seat k.history v (k.fits id v at) is).at
 
@@ -96,6 +98,7 @@ module _ (o : Origin) (s : Seats) (k : Kept o s) (id : ℕ) (v : Sight) (at : ge
             rests = of.1.rests;
             headed = of.1.headed;
             reads = of.1.reads;
+            covers = of.1.covers;
           },
         )
         | inr none ↦ inr none
@@ -109,7 +112,7 @@ module _ (o : Origin) (s : Seats) (k : Kept o s) (id : ℕ) (v : Sight) (at : ge
     fits_mine = let f = k.fits id v at in record {
       of = f.of;
       seen = f.seen;
-      part = inl (is, record { at = own; rests = rests; headed = headed; reads = reads });
+      part = inl (is, record { at = own; rests = rests; headed = headed; reads = reads; covers = λ none_out root. covers });
       given = λ given gave. given_still id v given at gave;
       out = f.out;
       earlier = f.earlier;
@@ -270,6 +273,7 @@ module _ (o : Origin) (s : Seats) (k : Kept o s) (id : ℕ) (v : Sight) (at : ge
       (subst (λ (x : Machine). HasResting (doing.Running x)) (sym first) (rests_begun o.table (now_in o.table (log_of k.history)).seed own c idle.work))
       (subst (λ (x : Machine). HeadedIn o m v.number v.load (log_of k.history) (doing.Running x)) (sym first) (headed_begins o.table m v.number v.load (log_of k.history) (now_in o.table (log_of k.history)).seed own c idle.work))
       (reads_begins m o.seed (log_of k.history) (caller_of v.origin.table.kind v.origin.table.shape v.origin.seed own) own c)
+      (covers_begins m (now_in o.table (log_of k.history)) [] (caller_of v.origin.table.kind v.origin.table.shape v.origin.seed own) own c)
 
   -- what is known of its own
   pub own_known : is_resting v.seat ≡ true → IsOwnOf o.table v.number (own_at v.seat) × IfSome (own_at v.seat).work IsResting

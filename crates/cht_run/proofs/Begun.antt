@@ -1,5 +1,5 @@
 -- What a call has found out that is to begin a work or a grace, and what its seat has done.
-use Rattle.std.proofs.Common.{◌≡◌, ◌≢◌, ℕ, ◌+◌, ◌*◌, ◌^◌, ◌<◌, ◌≤◌, Bool, true, false, cond, ◌==◌, nat_le, List, [], ◌∷◌, ◌++◌, Option, Some, None, refl, sym, ap, subst, ◌∙◌, arith}
+use Rattle.std.proofs.Common.{◌≡◌, ◌≢◌, ℕ, ◌+◌, ◌^◌, ◌<◌, Bool, true, false, cond, ◌==◌, nat_le, List, [], ◌∷◌, ◌++◌, Option, Some, None, refl, sym, ap, subst, ◌∙◌, arith}
 use Rattle.std.specs.Prelude.{is_some, if◌then◌else◌}
 use Rattle.std.proofs.lemmas.Bool.{eq-eqb, eqb-true, leb-true, leb-false}
 use Rattle.std.proofs.lemmas.List.{append-nil, append_assoc}
@@ -9,7 +9,6 @@ use Rattle.intern_log.specs.declared.event.What.{What}
 use Rattle.intern_log.specs.declared.event.What.TheVariants as what
 use Rattle.atomic_step.specs.declared.answer.Answer.{Answer}
 use Rattle.atomic_step.specs.declared.answer.Answer.TheVariants as answer
-use Rattle.atomic_step.specs.declared.plan.Plan.TheVariants as plan
 use Rattle.atomic_step.specs.Run.{AreFitting, after_words}
 use Rattle.atomic_step.specs.Turn.{next_in}
 use Rattle.call_machine.specs.declared.begin.BeginStage.{BeginStage}
@@ -27,18 +26,19 @@ use Rattle.call_machine.specs.declared.machine.Machine.TheVariants as machine
 use Rattle.call_machine.specs.declared.resize.Direction.{Direction}
 use Rattle.call_machine.specs.declared.resize.Direction.TheVariants.{Grow, Shrink}
 use Rattle.call_machine.specs.Begin.{begin_turn, answers, begun, goes_on, counted, taken, bounded}
-use Rattle.call_machine.specs.Machine.{caller_of, plan_of, got_of, event_of}
+use Rattle.call_machine.specs.Machine.{got_of, event_of}
 use Rattle.call_machine.specs.SoundMachine.{FitsMachine}
 use Rattle.call_machine.specs.WholeMachine.{machines}
 use Rattle.call_machine.proofs.Machines.{got_is}
 use Rattle.cht_core.specs.declared.table.Table.{Table}
-use Rattle.cht_core.specs.Causes.{now_in, IsSpent, IsAtLevel}
+use Rattle.cht_core.specs.Causes.{IsSpent, IsAtLevel}
 use Rattle.cht_core.specs.Invariant.{events_of}
 use Rattle.cht_core.specs.Past.{by}
 use Rattle.cht_core.specs.Windows.{Somewhere, whats_by}
 use Rattle.cht_core.proofs.Windows.{somewhere_on, at_end, whats_of, whats_by_waits, whats_by_step}
 use Rattle.cht_run.specs.declared.sight.Sight.{Sight}
-use Rattle.cht_run.specs.Begins.{own_at, first_of}
+use Rattle.cht_run.specs.Beginnings.{task_of, bound_of, at_bound}
+use Rattle.cht_run.specs.Begins.{first_of, caller_in}
 use Rattle.cht_run.specs.History.{log_of}
 use Rattle.cht_run.specs.Graces.{counter_in, IsUnspent, IsRaised}
 use Rattle.cht_run.specs.Runs.{SaysAt, Finds, Ran}
@@ -46,20 +46,6 @@ use Rattle.cht_run.specs.Runs.{SaysAt, Finds, Ran}
 -- a beginning at a stage
 abbrev pub at : Caller → BeginStage → Machine
 at caller s = machine.Begin (record { caller = caller; stage = s })
-
--- the work that is begun by a task
-abbrev pub task_of : Direction → Task
-task_of Grow = task.Grow
-task_of Shrink = task.Shrink
-
--- the level at which a resize is at its bound, and what it answers there
-abbrev pub bound_of : Table → Direction → ℕ
-bound_of t Grow = t.shape.max_level
-bound_of t Shrink = t.shape.min_level
-
-abbrev pub at_bound : Direction → ℕ → Answer
-at_bound Grow level = answer.AtMaximum level
-at_bound Shrink level = answer.AtMinimum level
 
 -- the level was this at a place of the window, and it is the bound, or it is not
 abbrev pub IsLevelled : Table → ℕ → List Event → List Event → Type 0
@@ -237,29 +223,23 @@ knows_all t i seen caller x of (word ∷ words) s window rest h fitting (between
 
 -- THE CALL OF A SEAT
 
--- where it has answered
-pub stage_answered : (caller : Caller) (s : BeginStage) (a : Answer) → plan_of (at caller s) ≡ plan.Answered a → (l : Left) × (s ≡ begin.Answered a l)
-stage_answered caller (begin.Answered b l) a is = (l, let same : b ≡ a = cc in ap (λ c. begin.Answered c l) same)
-stage_answered caller (begin.LoadCounter y) a is = absurd (cc)
-stage_answered caller (begin.TakeResizeLock y) a is = absurd (cc)
-stage_answered caller (begin.LoadLevel d) a is = absurd (cc)
-stage_answered caller (begin.GiveResizeLock b) a is = absurd (cc)
-stage_answered caller (begin.Grace g RaiseCounter) a is = absurd (cc)
-stage_answered caller (begin.Grace g LoadSection) a is = absurd (cc)
+-- where it stands
+abbrev stage_of : Machine → BeginStage
+stage_of (machine.Begin b) = b.stage
+stage_of _ = answers answer.Busy
 
--- who calls
-abbrev pub caller_in : Sight → Caller
-caller_in b = caller_of b.origin.table.kind b.origin.table.shape b.origin.seed (own_at b.seat)
+pub stage_same : (caller : Caller) (s r : BeginStage) → at caller s ≡ at caller r → s ≡ r
+stage_same caller s r same = ap stage_of same
 
-pub begun_ends : (b : Sight) (c : Call) (v : Sight) (m : Machine) (a : Answer) (x : Option Task) (ran : Ran b c v m) → first_of b c ≡ at (caller_in b) (begin.LoadCounter x) → plan_of m ≡ plan.Answered a →
-    (l : Left) × (m ≡ at (caller_in b) (begin.Answered a l)) × Ends b.origin.table b.number x (log_of b.history) (log_of ran.went.window) a l
-begun_ends b c v m a x ran first answered =
+-- it has answered this, and left this
+pub begun_ends : (b : Sight) (c : Call) (v : Sight) (a : Answer) (l : Left) (x : Option Task) (ran : Ran b c v (at (caller_in b) (begin.Answered a l))) → first_of b c ≡ at (caller_in b) (begin.LoadCounter x) →
+    Ends b.origin.table b.number x (log_of b.history) (log_of ran.went.window) a l
+begun_ends b c v a l x ran first =
     let t = b.origin.table in
     let caller = caller_in b in
     let seen = log_of b.history in
     let window = log_of ran.went.window in
     let (last, leads, knows) = knows_all t b.number seen caller x refl ran.words (begin.LoadCounter x) [] window (refl, refl) (subst (λ n. AreFitting machines n ran.words) first ran.fitting)
     (subst (λ n. Finds t b.number n ran.words (seen ++ []) window) first (subst (λ l. Finds t b.number (first_of b c) ran.words l window) (sym (append-nil seen)) ran.finds)) in
-    let is : m ≡ at caller last = sym ran.leads ∙ ap (λ n. after_words machines n ran.words) first ∙ leads in
-    let (l, stage_is) = stage_answered caller last a (ap plan_of (sym is) ∙ answered) in
-    (l, is ∙ ap (at caller) stage_is, subst (Knows t b.number x seen window) stage_is knows)
+    let is : at caller last ≡ at caller (begin.Answered a l) = sym leads ∙ ap (λ n. after_words machines n ran.words) (sym first) ∙ ran.leads in
+    subst (Knows t b.number x seen window) (stage_same caller last (begin.Answered a l) is) knows

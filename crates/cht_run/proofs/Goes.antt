@@ -30,11 +30,13 @@ use Rattle.call_machine.specs.declared.machine.Machine.TheVariants as machine
 use Rattle.call_machine.specs.declared.machine.Own.{Own}
 use Rattle.call_machine.specs.declared.stage.Along.{Along}
 use Rattle.call_machine.specs.declared.stage.Asked.{Asked}
+use Rattle.call_machine.specs.declared.stage.Calling.{Calling}
 use Rattle.call_machine.specs.declared.stage.CallStage.{CallStage}
 use Rattle.call_machine.specs.declared.stage.Request.{Request}
 use Rattle.call_machine.specs.Sought.{IsRequest, asked_of}
 use Rattle.atomic_step.specs.Turn as turn
 use Rattle.atomic_step.specs.Turn.{Turn, map_turn, plan_in, next_in}
+use Rattle.call_machine.specs.CallEvents.{made_of}
 use Rattle.call_machine.specs.Calls.{turn_at, plan_at, next_at}
 use Rattle.call_machine.specs.Machine.{caller_of, starts, started, beside, begun_grace_poll, begun_work_poll, plan_of, got_of, event_of, shape_of, number_of, passed_of, IsSameMachine}
 use Rattle.call_machine.specs.SoundMachine.{IsSoundMachine, IsSoundOwn, FitsMachine, MayStart}
@@ -47,7 +49,7 @@ use Rattle.cht_core.specs.Caused.{way_of, Caused, Hears, MayCause, Cause}
 use Rattle.cht_core.specs.Causes.{now_in, PlanSays, loaded_at}
 use Rattle.cht_core.specs.Flow.{Flow}
 use Rattle.cht_core.specs.Invariant.{events_of}
-use Rattle.cht_core.specs.Past.{past_of}
+use Rattle.cht_core.specs.Past.{past_of, by}
 use Rattle.cht_core.specs.State.{drawn_in}
 use Rattle.cht_core.specs.Tidy.{IsTidy}
 use Rattle.cht_core.specs.Windows.{IsTold, whats_by}
@@ -60,12 +62,16 @@ use Rattle.cht_run.specs.declared.sight.Origin.{Origin}
 use Rattle.cht_run.specs.declared.sight.Sight.{Sight}
 use Rattle.cht_run.specs.Begins.{own_at, first_of, begun, MayCall, HasLedger, ToldFirst, IsSoundOf, SoundIn, FitsIn, GoesOn, GoesFirst, next_in as seat_next, step_by}
 use Rattle.cht_run.specs.Calls.{Stays, Went, at_stage, At}
+use Rattle.cht_run.specs.ChainLengths.{linked_beside, chain_length}
+use Rattle.cht_run.specs.Covers.{MachinePassed}
 use Rattle.cht_run.specs.Seats.{Raw, Sits}
 use Rattle.cht_run.specs.declared.table.Cht.{Cht}
 use Rattle.cht_run.specs.History.{log_of, by_of, NoneBy, entries_by, told_by}
 use Rattle.cht_run.specs.Told.{adds, tells, drew, kids_after, given_after, Found, Told, WorkFound}
+use Rattle.cht_run.proofs.ChainLengths.{alone_window}
 use Rattle.cht_run.proofs.Deeds.{step_is_sound}
 use Rattle.cht_run.proofs.Histories.{log-append, log_adds}
+use Rattle.cht_run.proofs.Passing.{stays_long, machine_passed, starts_passed}
 
 -- EVENTS OF OTHERS
 
@@ -149,7 +155,9 @@ found_out t i way seen window log load f m s word is shape sound planned fits to
 -- from a seat whose call has found out so much, by a step that was told
 module _ (b : Sight) (c : Call) (v w : Sight) (m : Machine) (s : Step) (word : ℕ) (window : List Entry) (is_seat : is_among b.numbers b.number ≡ true) (stays : Stays b v)
     (history : v.history ≡ b.history ++ window) (caused : Caused b.origin.table b.number (way_of c) (log_of b.history) (log_of window) v.load m)
-    (own : IsOwn b.number b.numbers window) (alone : b.kids ≡ [] → is_among b.numbers 0 ≡ true → entries_by b.numbers window ≡ window) (ledger : HasLedger b) (sound : IsSoundOf b.origin b.number m) (planned : plan_of m ≡ plan.Step s) (none : drawn_in b.origin.table.shape s word ≡ None) (told : Told b.origin m s v word w) where
+    (own : IsOwn b.number b.numbers window) (alone : b.kids ≡ [] → is_among b.numbers 0 ≡ true → entries_by b.numbers window ≡ window)
+    (exact : b.kids ≡ [] → is_among b.numbers 0 ≡ true → MachinePassed b.origin.table (log_of b.history) m) (ledger : HasLedger b) (sound : IsSoundOf b.origin b.number m)
+    (planned : plan_of m ≡ plan.Step s) (none : drawn_in b.origin.table.shape s word ≡ None) (told : Told b.origin m s v word w) where
   abbrev t : Table
   t = b.origin.table
 
@@ -180,6 +188,27 @@ module _ (b : Sight) (c : Call) (v w : Sight) (m : Machine) (s : Step) (word : �
       (found_out t b.number (way_of c) (log_of b.history) (log_of window ++ log_of told.between) (log_of (v.history ++ told.between)) v.load found.flow m s word before_is sound.shape sound.sound planned found.fits found.told found.tidy
       waited found.says (subst (λ i. Hears t (past_of t.shape.min_level (log_of (v.history ++ told.between))) found.flow i v.load (log_of (v.history ++ told.between)) m word) stays.number found.hears)))
 
+  -- where nobody else is there, what came is the call's own, and leaves the chain as long as it was until an entry is made
+  passed_on : b.kids ≡ [] → is_among b.numbers 0 ≡ true → MachinePassed t (log_of b.history) (got_of m word)
+  passed_on none_out root = machine_passed t (log_of b.history) (now_in t (log_of (v.history ++ told.between))) m word same (told.ended gone among) (exact none_out root)
+    where
+      gone : v.kids ≡ []
+      gone = stays.kids ∙ none_out
+
+      among : is_among v.numbers 0 ≡ true
+      among = ap (λ ns. is_among ns 0) stays.numbers ∙ root
+
+      nothing : log_of window ++ log_of told.between ≡ log_of window
+      nothing = ap (λ l. log_of window ++ log_of l) (told.alone gone among) ∙ append-nil (log_of window)
+
+      its_own : log_of window ++ log_of told.between ≡ map (by b.number) (whats_by b.number (log_of window ++ log_of told.between))
+      its_own = subst (λ l. l ≡ map (by b.number) (whats_by b.number l)) (sym nothing) (alone_window b.number (entries_by b.numbers window) window (alone none_out root) own)
+
+      same : (x : Calling) (g : Option Grace) → m ≡ machine.Call x None g → made_of x ≡ [] →
+          linked_beside t.shape.slots (now_in t (log_of (v.history ++ told.between))) x.asked.text ≡ chain_length t (log_of b.history) x.asked.text
+      same x g is made = ap (λ l. chain_length t l x.asked.text) before_is
+          ∙ stays_long t b.number (way_of c) (log_of b.history) (log_of window ++ log_of told.between) v.load m waited (subst (IsTold t) before_is told.found.told) its_own x g is made
+
   pub goes_on : Went b c w (got_of m word)
   goes_on = record {
     is = ap (λ (x : Sight). x.seat) told.after;
@@ -206,6 +235,7 @@ module _ (b : Sight) (c : Call) (v w : Sight) (m : Machine) (s : Step) (word : �
     sound = sound_still b.origin b.number m word sound told.sound;
     few = told.few;
     found_out = subst (λ i. WorkFound b.origin.table (log_of w.history) i (got_of m word)) stays.number told.found_out;
+    exact = passed_on;
   }
 
 -- A FURTHER STEP
@@ -213,7 +243,7 @@ module _ (b : Sight) (c : Call) (v w : Sight) (m : Machine) (s : Step) (word : �
 pub went_on : (b : Sight) (c : Call) (v w : Sight) (m : Machine) (s : Step) (word : ℕ) → is_among b.numbers b.number ≡ true → Went b c v m → plan_of m ≡ plan.Step s → drawn_in b.origin.table.shape s word ≡ None → Told v.origin m s v word w →
     Went b c w (got_of m word)
 went_on b c v w m s word is went planned none told =
-    goes_on b c v w m s word went.window is went.stays went.history went.caused went.own went.alone went.ledger went.sound planned none (subst (λ o. Told o m s v word w) went.stays.origin told)
+    goes_on b c v w m s word went.window is went.stays went.history went.caused went.own went.alone went.exact went.ledger went.sound planned none (subst (λ o. Told o m s v word w) went.stays.origin told)
 
 -- THE FIRST STEP
 
@@ -265,7 +295,8 @@ went_first b c w s word shape seed may causes planned none first =
       number_is = (started_by (caller_of t.kind t.shape b.origin.seed own) own c).1 ∙ first.number_is;
     } in
     goes_on b c (begun b c) w (first_of b c) s word [] may.seat (record { origin = refl; number = refl; numbers = refl; kids = refl; given = refl }) (sym (append-nil b.history))
-    (caused_begins t b.number (log_of b.history) b.load b.origin.seed own c shape seed first.own may_start causes) refl (λ none_out root. refl) first.ledger sound planned none first.told
+    (caused_begins t b.number (log_of b.history) b.load b.origin.seed own c shape seed first.own may_start causes) refl (λ none_out root. refl)
+    (λ none_out root. starts_passed t (log_of b.history) s (caller_of t.kind t.shape b.origin.seed own) own c planned) first.ledger sound planned none first.told
 
 -- THE ANSWER
 

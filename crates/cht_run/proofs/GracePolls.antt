@@ -1,5 +1,5 @@
 -- What the poll of a grace has found out: which numbers it has passed, and for which one it waits.
-use Rattle.std.proofs.Common.{◌≡◌, ◌⊎◌, ⊎_elim, ℕ, ◌+◌, ◌*◌, ◌%◌, ◌^◌, ◌<◌, ◌≤◌, Bool, true, false, cond, ◌==◌, List, [], ◌∷◌, ◌++◌, Option, Some, None, inl, inr, refl, sym, ap, subst, ◌∙◌, arith}
+use Rattle.std.proofs.Common.{◌≡◌, ◌⊎◌, ℕ, ◌+◌, ◌%◌, ◌<◌, ◌≤◌, Bool, true, false, cond, ◌==◌, List, [], ◌∷◌, ◌++◌, Some, inl, inr, refl, sym, ap, subst, ◌∙◌, arith}
 use Rattle.std.specs.Option.{option_map}
 use Rattle.std.proofs.lemmas.Bool.{cases_eq, eqb-true}
 use Rattle.std.proofs.lemmas.Bool.Decides.{nat_tests}
@@ -12,24 +12,20 @@ use Rattle.intern_log.specs.declared.event.What.{What}
 use Rattle.intern_log.specs.Now.{OpenSection}
 use Rattle.atomic_step.specs.declared.answer.Answer.{Answer}
 use Rattle.atomic_step.specs.declared.answer.Answer.TheVariants as answer
-use Rattle.atomic_step.specs.declared.plan.Plan.TheVariants as plan
 use Rattle.atomic_step.specs.Run.{AreFitting, after_words}
 use Rattle.atomic_step.specs.Turn.{next_in}
 use Rattle.call_machine.specs.declared.begin.BeginStage.{BeginStage}
 use Rattle.call_machine.specs.declared.begin.BeginStage.TheVariants as begin
 use Rattle.call_machine.specs.declared.begin.Left.{Left}
 use Rattle.call_machine.specs.declared.begin.Left.TheVariants as left
-use Rattle.call_machine.specs.declared.call.Call.{Call}
 use Rattle.call_machine.specs.declared.call.Call.TheVariants as call
 use Rattle.call_machine.specs.declared.caller.Caller.{Caller}
 use Rattle.call_machine.specs.declared.grace.Grace.{Grace}
 use Rattle.call_machine.specs.declared.grace.GraceStage.TheVariants.{RaiseCounter, LoadSection}
 use Rattle.call_machine.specs.declared.grace.Gracing.{Gracing}
 use Rattle.call_machine.specs.declared.grace.Gracing.TheVariants.{Goes, Waits, Over}
-use Rattle.call_machine.specs.declared.machine.Machine.{Machine}
-use Rattle.call_machine.specs.declared.machine.Machine.TheVariants as machine
 use Rattle.call_machine.specs.Begin.{begin_turn, graced}
-use Rattle.call_machine.specs.Machine.{begun_grace_poll, plan_of, got_of, event_of}
+use Rattle.call_machine.specs.Machine.{begun_grace_poll, got_of, event_of}
 use Rattle.call_machine.specs.SoundMachine.{FitsMachine}
 use Rattle.call_machine.specs.WholeMachine.{machines}
 use Rattle.call_machine.proofs.Machines.{got_is}
@@ -40,11 +36,11 @@ use Rattle.cht_core.specs.Windows.{Somewhere, whats_by}
 use Rattle.cht_core.proofs.CauseSteps.{waited_for}
 use Rattle.cht_core.proofs.Windows.{somewhere_on, at_end, whats_by_waits}
 use Rattle.cht_run.specs.declared.sight.Sight.{Sight}
-use Rattle.cht_run.specs.Begins.{own_at, first_of}
+use Rattle.cht_run.specs.Begins.{own_at, first_of, caller_in}
 use Rattle.cht_run.specs.Graces.{counter_in, IsPassed}
 use Rattle.cht_run.specs.History.{log_of}
 use Rattle.cht_run.specs.Runs.{SaysAt, Finds, Ran}
-use Rattle.cht_run.proofs.Begun.{at, caller_in, Did, stage_answered}
+use Rattle.cht_run.proofs.Begun.{at, Did, stage_same}
 use Rattle.cht_run.proofs.Counters.{counter_grows}
 
 -- A NUMBER IS PASSED
@@ -180,10 +176,10 @@ knows_all t i raised seen high caller of (word ∷ words) s window rest h fittin
 
 -- THE CALL OF A SEAT
 
-pub poll_ends : (b : Sight) (v : Sight) (m : Machine) (a : Answer) (g : Grace) (ran : Ran b call.PollGrace v m) → (own_at b.seat).grace ≡ Some g → g.raised ≤ counter_in b.origin.table (log_of b.history) →
-    HasPassed b.origin.table g.raised g.next (log_of b.history) → plan_of m ≡ plan.Answered a →
-    (l : Left) × (m ≡ at (caller_in b) (begin.Answered a l)) × PollEnds b.origin.table b.number g.raised (log_of b.history) (log_of ran.went.window) a l
-poll_ends b v m a g ran has high passed answered =
+-- it has answered this, and left this
+pub poll_ends : (b : Sight) (v : Sight) (a : Answer) (l : Left) (g : Grace) (ran : Ran b call.PollGrace v (at (caller_in b) (begin.Answered a l))) → (own_at b.seat).grace ≡ Some g → g.raised ≤ counter_in b.origin.table (log_of b.history) →
+    HasPassed b.origin.table g.raised g.next (log_of b.history) → PollEnds b.origin.table b.number g.raised (log_of b.history) (log_of ran.went.window) a l
+poll_ends b v a l g ran has high passed =
     let t = b.origin.table in
     let caller = caller_in b in
     let seen = log_of b.history in
@@ -192,6 +188,5 @@ poll_ends b v m a g ran has high passed answered =
     let (last, leads, knows) = knows_all t b.number g.raised seen high caller refl ran.words (begin.Grace g LoadSection) [] window
     (refl, refl, subst (HasPassed t g.raised g.next) (sym (append-nil seen)) passed) (subst (λ n. AreFitting machines n ran.words) first ran.fitting)
     (subst (λ n. Finds t b.number n ran.words (seen ++ []) window) first (subst (λ l. Finds t b.number (first_of b call.PollGrace) ran.words l window) (sym (append-nil seen)) ran.finds)) in
-    let is : m ≡ at caller last = sym ran.leads ∙ ap (λ n. after_words machines n ran.words) first ∙ leads in
-    let (l, stage_is) = stage_answered caller last a (ap plan_of (sym is) ∙ answered) in
-    (l, is ∙ ap (at caller) stage_is, subst (KnowsPoll t b.number g.raised seen window) stage_is knows)
+    let is : at caller last ≡ at caller (begin.Answered a l) = sym leads ∙ ap (λ n. after_words machines n ran.words) (sym first) ∙ ran.leads in
+    subst (KnowsPoll t b.number g.raised seen window) (stage_same caller last (begin.Answered a l) is) knows

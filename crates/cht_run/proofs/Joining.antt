@@ -10,7 +10,7 @@ use lib.ListN.{get_elem?}
 use Rattle.atomic_table.specs.Table.{Me, keeps, Allows, Joins}
 use Rattle.atomic_table.proofs.Lists.{at_set, set_else, set_again}
 use Rattle.chain_core.specs.Path.{without}
-use Rattle.intern_log.specs.Now.{with_at}
+use Rattle.intern_log.specs.Now.{with_at, now_of}
 use Rattle.intern_log.specs.Own.{is_among}
 use Rattle.atomic_step.specs.declared.plan.Plan.{Plan}
 use Rattle.atomic_step.specs.declared.plan.Plan.TheVariants as plan
@@ -35,6 +35,7 @@ use Rattle.cht_run.specs.declared.sight.Sight.{Sight}
 use Rattle.cht_run.specs.Begins.{own_at, is_over, is_resting}
 use Rattle.cht_run.specs.History.{log_of, by_of, is_drawn, NoneBy, draws_of, IsOrderly, IsNumbered, IsOut, AreOut, AreApart, Follows, Remembers, WasTold}
 use Rattle.cht_run.specs.Rule.{view_of, is_seat, Owns, IsNew, IsPart, Fits, IsSnapshot, Kept}
+use Rattle.cht_run.proofs.CoversFirst.{resting_covers}
 use Rattle.cht_run.specs.Views.{spent, longer, earlier_of, hears, joined}
 use Rattle.cht_run.proofs.Fronts.{was_told_front}
 use Rattle.cht_run.proofs.Histories.{among_append, among_either, among_left, among_right, all_first, none_first, none_second, out_since}
@@ -180,7 +181,7 @@ module _ (o : Origin) (s : Seats) (k : Kept o s) (id : ℕ) (v : Sight) (at : ge
   fits_hearer = record {
     of = mine.of;
     seen = record { later = top.later; whole = top.splits; none = top.first_none };
-    part = elim mine.part [ inl part ↦ inl (part.0, record { at = part.1.at; rests = part.1.rests; headed = part.1.headed; reads = part.1.reads }) | inr none ↦ inr none ];
+    part = elim mine.part [ inl part ↦ inl (part.0, record { at = part.1.at; rests = part.1.rests; headed = part.1.headed; reads = part.1.reads; covers = part.1.covers }) | inr none ↦ inr none ];
     given = mine.given;
     out = all_first (IsOut v.numbers v.kids) (longer v.history w.history) top.later all_out;
     earlier = remembers_two v w (longer v.history w.history) top.first top.second (λ number has. ap (λ l. is_among l number) nobody);
@@ -291,7 +292,7 @@ rested o m seat history w inv at rests = go w.seat refl rests
 
 -- A SEAT IS JOINED INTO ANOTHER ONE
 module _ (o : Origin) (s : Seats) (k : Kept o s) (id : ℕ) (v : Sight) (at : get_elem? s.views id ≡ some v) (other : ℕ) (w : Sight) (differ : ¬ (other ≡ id))
-    (after : get_elem? (set s.views id (joined v w)) other ≡ some w) (is_v : is_seat v ≡ true) (is_w : is_seat w ≡ true) (rests : is_resting w.seat ≡ true) (no_work : (own_at w.seat).work ≡ None) where
+    (after : get_elem? (set s.views id (joined v w)) other ≡ some w) (is_v : is_seat v ≡ true) (is_w : is_seat w ≡ true) (rests_v : is_resting v.seat ≡ true) (rests : is_resting w.seat ≡ true) (no_work : (own_at w.seat).work ≡ None) where
   abbrev here : Memory
   here = memory_of o.table.shape s.words
 
@@ -377,6 +378,7 @@ module _ (o : Origin) (s : Seats) (k : Kept o s) (id : ℕ) (v : Sight) (at : ge
           rests = part.1.rests;
           headed = part.1.headed;
           reads = part.1.reads;
+          covers = part.1.covers;
         },
       )
       | inr none ↦ inr none
@@ -401,7 +403,16 @@ module _ (o : Origin) (s : Seats) (k : Kept o s) (id : ℕ) (v : Sight) (at : ge
   fits_joined = record {
     of = λ is. first.of is_v;
     seen = record { later = ends.later; whole = ends.splits; none = none_of_both w.numbers v.numbers ends.later ends.second_none ends.first_none };
-    part = inl (still_seat, record { at = seat_v; rests = part_v.rests; headed = part_v.headed; reads = part_v.reads });
+    part = inl (
+      still_seat,
+      record {
+        at = seat_v;
+        rests = part_v.rests;
+        headed = part_v.headed;
+        reads = part_v.reads;
+        covers = λ none_out root. resting_covers here (now_of o.table.shape.min_level (log_of k.history)) v.passed v.seat rests_v;
+      },
+    );
     given = λ own gave. given_still id v own (λ same. differ (sym same)) at gave (first.given own gave).differ;
     out = all_first (IsOut (w.numbers ++ v.numbers) (without w.number v.kids ++ w.kids)) (longer v.history w.history) ends.later
         (subst (AreOut (w.numbers ++ v.numbers) (without w.number v.kids ++ w.kids)) ends.splits whole_out);
@@ -448,9 +459,9 @@ module _ (o : Origin) (s : Seats) (k : Kept o s) (id : ℕ) (v : Sight) (at : ge
         (λ n u no_id no_other at'. k.shown n u at');
   }
 
-pub joins : (o : Origin) (id : ℕ) (v : Sight) (other : ℕ) (w : Sight) → is_seat v ≡ true → is_seat w ≡ true → is_resting w.seat ≡ true → (own_at w.seat).work ≡ None →
+pub joins : (o : Origin) (id : ℕ) (v : Sight) (other : ℕ) (w : Sight) → is_seat v ≡ true → is_seat w ≡ true → is_resting v.seat ≡ true → is_resting w.seat ≡ true → (own_at w.seat).work ≡ None →
     Joins (Kept o) id v other w (joined v w) spent
-joins o id v other w is_v is_w rests no_work s k at differ after = joined_kept o s k id v at other w differ after is_v is_w rests no_work
+joins o id v other w is_v is_w rests_v rests no_work s k at differ after = joined_kept o s k id v at other w differ after is_v is_w rests_v rests no_work
 
 -- RECALL: a load that changes nothing, and tells what a seat knows of before its last join
 pub recalls : (o : Origin) (slots id : ℕ) (me : Me (Unit {0}) Sight) → Allows (Kept o) slots id me 0 (λ n. n) (λ n after. (after ≡ me) × Remembers me.0.history me.0.earlier × (is_seat me.0 ≡ true → WasTold me.0.origin.table me.0.history))

@@ -7,11 +7,16 @@ pub mod Matches
 pub mod MapEntries
 pub mod Tallies
 pub mod Totals
+pub mod ChainLengths
+pub mod OffNodes
+pub mod CoversFirst
+pub mod Covering
 pub mod Steps
 pub mod Begins
 pub mod Allows
 pub mod Deeds
 pub mod Layouts
+pub mod Passing
 pub mod Goes
 pub mod Leads
 pub mod Opens
@@ -21,6 +26,7 @@ pub mod HeldLive
 pub mod Loading
 pub mod Looking
 pub mod Walking
+pub mod WalkPasses
 pub mod Reading
 pub mod Counting
 pub mod Remade
@@ -49,6 +55,7 @@ pub mod GraceCalls
 pub mod WorkCalls
 pub mod PollAnswers
 pub mod WorkRuns
+pub mod FullPasses
 pub mod PollCalls
 pub mod Waited
 pub mod SweepRuns
@@ -61,3 +68,9 @@ pub mod HoldsOn
 pub mod Gives
 pub mod SeenAfter
 pub mod Accounts
+pub mod Underway
+pub mod Beginnings
+pub mod SweepSteps
+pub mod Cleans
+pub mod PollStarts
+pub mod Resizes

@@ -45,7 +45,7 @@ module _ (o : Origin) (s : Seats) (k : Kept o s) (id : ℕ) (v : Sight) (at : ge
   fits_after = record {
     of = fit.of;
     seen = record { later = []; whole = sym (append-nil k.history); none = All-nil (λ (e : Entry). is_among v.numbers (by_of e) ≡ false) };
-    part = let part = part_of o m k.seat k.history v fit is in inl (is, record { at = part.at; rests = part.rests; headed = part.headed; reads = part.reads });
+    part = let part = part_of o m k.seat k.history v fit is in inl (is, record { at = part.at; rests = part.rests; headed = part.headed; reads = part.reads; covers = part.covers });
     given = fit.given;
     out = subst (AreOut v.numbers v.kids) (sym fit.seen.whole) (out_since v.numbers v.kids v.history fit.seen.later fit.out fit.seen.none);
     earlier = no_earlier k.history;

@@ -60,7 +60,7 @@ module _ (o : Origin) (shape : IsSound o.table.shape) (counter : IsFirstCounter 
   root_fits = record {
     of = λ is. refl;
     seen = record { later = []; whole = refl; none = All-nil (λ (e : Entry). is_among (0 ∷ []) (Rattle.cht_run.specs.History.by_of e) ≡ false) };
-    part = inl (refl, record { at = first; rests = tt; headed = tt; reads = tt });
+    part = inl (refl, record { at = first; rests = tt; headed = tt; reads = tt; covers = λ none_out root. tt });
     given = λ own gave. absurd (cc);
     out = All-nil (IsOut (0 ∷ []) []);
     earlier = record { seen = All-nil (λ (e : Earlier). Follows e.numbers e.history []); apart = tt };

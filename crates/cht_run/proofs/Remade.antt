@@ -144,7 +144,7 @@ module _ (o : Origin) (s : Seats) (k : Kept o s) (id : ℕ) (v : Sight) (at : ge
   heir_fits = record {
     of = λ is. refl;
     seen = record { later = []; whole = heir_history ∙ sym (append-nil heir.history); none = All-nil (λ (e : Entry). is_among v.numbers (by_of e) ≡ false) };
-    part = inl (can.seat, record { at = r.own; rests = subst (λ w. Rattle.std.specs.Prelude.IfSome w Rattle.cht_core.specs.Causes.IsResting) (sym can.work) tt; headed = tt; reads = tt });
+    part = inl (can.seat, record { at = r.own; rests = subst (λ w. Rattle.std.specs.Prelude.IfSome w Rattle.cht_core.specs.Causes.IsResting) (sym can.work) tt; headed = tt; reads = tt; covers = λ none_out root. tt });
     given = λ own gave. absurd (cc);
     out = subst (AreOut v.numbers []) heir_history out_is;
     earlier = no_earlier heir.history;

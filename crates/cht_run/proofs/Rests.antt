@@ -1,9 +1,6 @@
 -- A call of a work or a grace that has answered leaves its seat at rest.
-use Rattle.std.proofs.Common.{◌≡◌, ℕ, ◌^◌, ◌<◌, true, List, [], ◌∷◌, Option, Some, None, refl, sym, ap, subst, ◌∙◌}
-use Rattle.std.specs.Prelude.{is_some}
-use Rattle.table_shape.specs.Shape.{IsSound}
+use Rattle.std.proofs.Common.{◌≡◌, ℕ, true, List, [], ◌∷◌, Option, Some, None, refl, sym, ap, subst, ◌∙◌}
 use Rattle.atomic_step.specs.declared.answer.Answer.{Answer}
-use Rattle.atomic_step.specs.declared.plan.Plan.{Plan}
 use Rattle.atomic_step.specs.declared.plan.Plan.TheVariants as plan
 use Rattle.atomic_step.specs.Run.{after_words}
 use Rattle.call_machine.specs.declared.call.Call.{Call}
@@ -14,48 +11,16 @@ use Rattle.call_machine.specs.declared.machine.Machine.{Machine}
 use Rattle.call_machine.specs.declared.machine.Machine.TheVariants as machine
 use Rattle.call_machine.specs.declared.machine.Own.{Own}
 use Rattle.call_machine.specs.declared.work.Work.{Work}
-use Rattle.call_machine.specs.Machine.{caller_of, starts, started, begun_grace_poll, begun_work_poll, plan_of, got_of, own_of, shape_of, number_of, IsOfWork, IsSameMachine}
-use Rattle.call_machine.specs.SoundMachine.{IsSoundOwn, MayStart, IsSoundMachine}
+use Rattle.call_machine.specs.Machine.{caller_of, starts, begun_grace_poll, begun_work_poll, plan_of, got_of, own_of, number_of, IsOfWork, IsSameMachine}
+use Rattle.call_machine.specs.SoundMachine.{IsSoundOwn}
 use Rattle.call_machine.specs.WholeMachine.{machines}
 use Rattle.call_machine.proofs.Machines.{same_law, left_law}
-use Rattle.cht_core.specs.declared.seat.Seat.TheVariants as doing
 use Rattle.cht_run.specs.declared.sight.Origin.{Origin}
 use Rattle.cht_run.specs.declared.sight.Sight.{Sight}
 use Rattle.cht_run.specs.Begins.{own_at, is_over, is_resting, first_of}
 use Rattle.cht_run.specs.History.{HasSeen}
-use Rattle.cht_run.specs.Runs.{Ran, IsBeginning}
+use Rattle.cht_run.specs.Runs.{Ran}
 use Rattle.cht_run.proofs.Runs.{of_work_on}
-
--- A BEGINNING STAYS ONE
-
-begins_same : (a b : Machine) → IsBeginning a → IsSameMachine a b → IsBeginning b
-begins_same (machine.Begin x) (machine.Begin y) is same = tt
-begins_same (machine.Begin x) (machine.Call c w g) is same = absurd same
-begins_same (machine.Begin x) (machine.Poll y) is same = absurd same
-begins_same (machine.Begin x) (machine.Sweep y) is same = absurd same
-begins_same (machine.Call c w g) b is same = absurd is
-begins_same (machine.Poll x) b is same = absurd is
-begins_same (machine.Sweep x) b is same = absurd is
-
-begins_still : (m : Machine) (words : List ℕ) → IsBeginning m → IsBeginning (after_words machines m words)
-begins_still m [] is = is
-begins_still m (word ∷ words) is = begins_still (got_of m word) words (begins_same m (got_of m word) is (same_law m word))
-
-pub begins_ran : (b : Sight) (c : Call) (v : Sight) (m : Machine) → Ran b c v m → IsBeginning (first_of b c) → IsBeginning m
-begins_ran b c v m ran is = subst IsBeginning ran.leads (begins_still (first_of b c) ran.words is)
-
-of_work_still : (m : Machine) (words : List ℕ) → IsOfWork m → IsOfWork (after_words machines m words)
-of_work_still m [] is = is
-of_work_still m (word ∷ words) is = of_work_still (got_of m word) words (of_work_on m word is)
-
-pub of_work_ran : (b : Sight) (c : Call) (v : Sight) (m : Machine) → Ran b c v m → IsOfWork (first_of b c) → IsOfWork m
-of_work_ran b c v m ran is = subst IsOfWork ran.leads (of_work_still (first_of b c) ran.words is)
-
-pub begins_of_work : (m : Machine) → IsBeginning m → IsOfWork m
-begins_of_work (machine.Begin b) is = tt
-begins_of_work (machine.Call c w g) is = absurd is
-begins_of_work (machine.Poll x) is = absurd is
-begins_of_work (machine.Sweep x) is = absurd is
 
 -- THE SLOT FROM WHICH A SEAT LOOKS FOR A FREE ONE
 

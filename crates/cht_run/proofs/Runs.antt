@@ -1,42 +1,32 @@
 -- A call that is run by its machine goes on word by word.
-use Rattle.std.proofs.Common.{◌≡◌, ◌≢◌, ℕ, ◌-◌, ◌^◌, ◌<◌, ◌≤◌, Bool, true, false, cond, ◌==◌, List, [], ◌∷◌, ◌++◌, Option, Some, None, refl, sym, ap, subst, ◌∙◌, arith, rules}
-use Rattle.std.specs.Prelude.{is_some}
+use Rattle.std.proofs.Common.{◌≡◌, ◌≢◌, ℕ, ◌-◌, ◌^◌, ◌<◌, true, List, [], ◌∷◌, ◌++◌, Option, Some, None, refl, sym, ap, subst, ◌∙◌}
 use Rattle.std.proofs.lemmas.List.{append-nil, append_assoc, append_cancel_left}
 use Rattle.intern_log.specs.declared.event.Event.{Event}
-use Rattle.intern_log.specs.declared.event.Kind.{Kind}
-use Rattle.intern_log.specs.declared.event.What.{What}
 use Rattle.intern_log.specs.Own.{is_among}
 use Rattle.table_shape.specs.declared.shape.Shape.{Shape}
 use Rattle.table_shape.specs.Shape.{IsSound}
 use Rattle.atomic_step.specs.declared.answer.Answer.{Answer}
 use Rattle.atomic_step.specs.declared.plan.Plan.TheVariants as plan
-use Rattle.atomic_step.specs.declared.step.Edge.TheVariants as edge
 use Rattle.atomic_step.specs.declared.step.Step.{Step}
 use Rattle.atomic_step.specs.declared.step.Step.TheVariants as step
 use Rattle.atomic_step.specs.Run.{Machine as Told, AreFitting, after_words}
 use Rattle.atomic_step.specs.Step.{access_of}
 use Rattle.atomic_step.specs.Table.{IsWordAt}
 use Rattle.atomic_step.specs.Turn.{Turn, Answered, Makes, plan_in}
-use Rattle.call_machine.specs.declared.begin.BeginStage.{BeginStage}
-use Rattle.call_machine.specs.declared.begin.BeginStage.TheVariants as begin
 use Rattle.call_machine.specs.declared.call.Call.{Call}
-use Rattle.call_machine.specs.declared.call.Call.TheVariants as call
 use Rattle.call_machine.specs.declared.caller.Caller.{Caller}
-use Rattle.call_machine.specs.declared.grace.GraceStage.TheVariants.{RaiseCounter, LoadSection}
 use Rattle.call_machine.specs.declared.machine.Machine.{Machine}
 use Rattle.call_machine.specs.declared.machine.Machine.TheVariants as machine
-use Rattle.call_machine.specs.declared.machine.Own.{Own}
 use Rattle.call_machine.specs.declared.poll.Polling.{Polling}
 use Rattle.call_machine.specs.declared.work.Work.{Work}
 use Rattle.call_machine.specs.declared.work.Work.TheVariants as work
-use Rattle.call_machine.specs.Begin.{begin_turn, begin_got}
-use Rattle.call_machine.specs.Machine.{started, plan_of, got_of, event_of, IsOfWork, IsSameMachine}
+use Rattle.call_machine.specs.Begin.{begin_turn}
+use Rattle.call_machine.specs.Machine.{plan_of, got_of, event_of, IsOfWork, IsSameMachine}
 use Rattle.call_machine.specs.Poll.{poll_turn}
-use Rattle.call_machine.specs.SoundBegin.{IsSoundBegin, FitsBegin}
-use Rattle.call_machine.specs.SoundMachine.{HasHandle, IsAllowed, IsSoundOwn, MayStart, IsSoundMachine, FitsMachine}
+use Rattle.call_machine.specs.SoundMachine.{FitsMachine}
 use Rattle.call_machine.specs.Sweep.{sweep_turn}
 use Rattle.call_machine.specs.WholeMachine.{machines}
-use Rattle.call_machine.proofs.Machines.{plan_is, got_is, fits_part, same_law}
+use Rattle.call_machine.proofs.Machines.{plan_is, same_law}
 use Rattle.cht_core.specs.declared.seat.Seat.TheVariants as doing
 use Rattle.cht_core.specs.declared.table.Table.{Table}
 use Rattle.cht_core.specs.Causes.{PlanSays}
@@ -51,15 +41,14 @@ use Rattle.cht_core.proofs.MachineBounds.{begin_draws_not, sweep_draws_not}
 use Rattle.cht_core.proofs.PollBounds.{clean_draws_not}
 use Rattle.cht_core.proofs.ResizeBounds.{resize_draws_not}
 use Rattle.cht_core.proofs.Turns.{IfMakes}
-use Rattle.cht_core.proofs.Windows.{whats_of, whats_by_waits, whats_by_step}
+use Rattle.cht_core.proofs.Windows.{whats_by_waits}
 use Rattle.cht_run.specs.declared.sight.Entry.{Entry}
-use Rattle.cht_run.specs.declared.sight.Origin.{Origin}
 use Rattle.cht_run.specs.declared.sight.Sight.{Sight}
 use Rattle.cht_run.specs.declared.table.Cht.{Cht}
 use Rattle.cht_run.specs.Begins.{own_at, first_of, begun, MayCall, ToldFirst, IsSoundOf, SoundIn, FitsIn, GoesOn, GoesFirst, next_in, step_by}
 use Rattle.cht_run.specs.Calls.{Stays, Went}
 use Rattle.cht_run.specs.History.{log_of, NoneBy}
-use Rattle.cht_run.specs.Runs.{CanStand, SaysAt, Finds, Ran, IsBeginning, IsBeginCall, IsPollCall}
+use Rattle.cht_run.specs.Runs.{CanStand, SaysAt, Finds, Ran}
 use Rattle.cht_run.specs.Seats.{Raw, Sits}
 use Rattle.cht_run.specs.Told.{adds, Told as WasTold}
 use Rattle.cht_run.proofs.Goes.{whats_none, went_on, went_first}
@@ -251,31 +240,3 @@ module _ (cht : Cht) (b : Sight) (c : Call) (raw : Raw) (m : Machine) (sits : Si
       let stays = ran.went.stays in
       let is : is_among b.numbers b.number ≡ true = subst (λ ns. is_among ns b.number ≡ true) stays.numbers (subst (λ n. is_among raw.me.0.numbers n ≡ true) stays.number sits.seat) in
       ran_on b c raw.me.0 raw'.me.0 m s word is ran of planned (goes m s (record { seat = sits.seat; running = ran.went.is; plan = planned }))
-
--- A BEGINNING ANSWERS IN TIME
-
-abbrev steps_left : ℕ → BeginStage → ℕ
-steps_left seats (begin.LoadCounter t) = 4
-steps_left seats (begin.TakeResizeLock t) = 3
-steps_left seats (begin.LoadLevel d) = 2
-steps_left seats (begin.GiveResizeLock a) = 1
-steps_left seats (begin.Grace g RaiseCounter) = 1
-steps_left seats (begin.Grace g LoadSection) = seats - g.next
-steps_left seats (begin.Answered a l) = 0
-
--- how many steps are left at most
-abbrev pub left_in : Machine → ℕ
-left_in (machine.Begin b) = steps_left b.caller.shape.seats b.stage
-left_in _ = 0
-
-falls_at : (caller : Caller) (s : BeginStage) (word : ℕ) → IsSoundBegin (record { caller = caller; stage = s }) → FitsBegin (record { caller = caller; stage = s }) word →
-    steps_left caller.shape.seats (begin_got (record { caller = caller; stage = s }) word).stage < steps_left caller.shape.seats s
-falls_at caller s word sound fits = search rules
-
-pub falls_on : (m : Machine) (word : ℕ) → IsBeginning m → IsSoundMachine m → FitsMachine m word → IsBeginning (got_of m word) × (left_in (got_of m word) < left_in m)
-falls_on (machine.Begin b) word is sound fits =
-    let part : machine.Begin (begin_got b word) ≡ got_of (machine.Begin b) word = sym (got_is (machine.Begin b) word) in
-    (subst IsBeginning part tt, subst (λ m. left_in m < left_in (machine.Begin b)) part (falls_at b.caller b.stage word sound (fits_part (machine.Begin b) word fits)))
-falls_on (machine.Call c w g) word is sound fits = absurd is
-falls_on (machine.Poll p) word is sound fits = absurd is
-falls_on (machine.Sweep s) word is sound fits = absurd is

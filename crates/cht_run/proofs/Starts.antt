@@ -1,17 +1,12 @@
 -- The first step of a call of a work or a grace: it loads the counter, or it is the next step of what a seat has unfinished.
-use Rattle.std.proofs.Common.{◌≡◌, ◌≢◌, ℕ, ◌^◌, ◌<◌, Bool, true, false, List, [], ◌∷◌, ◌++◌, Option, Some, None, IfSome, refl, sym, ap, subst, ◌∙◌}
-use Rattle.std.specs.Prelude.{is_some}
+use Rattle.std.proofs.Common.{◌≡◌, ◌≢◌, ℕ, ◌^◌, ◌<◌, true, false, List, [], ◌∷◌, ◌++◌, Option, Some, None, IfSome, refl, sym, ap, subst, ◌∙◌}
 use Rattle.std.specs.Option.{option_map}
-use Rattle.std.proofs.lemmas.Bool.{eq-eqb}
 use Rattle.std.proofs.lemmas.List.Elements.{All-head, All-tail}
-use Rattle.table_shape.specs.declared.shape.Shape.{Shape}
 use Rattle.table_shape.specs.Shape.{IsSound}
-use Rattle.atomic_step.specs.SoundStep.{IsSoundStep}
 use Rattle.intern_log.specs.declared.event.Event.{Event}
-use Rattle.intern_log.specs.declared.event.Kind.{Kind}
 use Rattle.intern_log.specs.declared.event.What.{What}
 use Rattle.intern_log.specs.declared.event.What.TheVariants as what
-use Rattle.intern_log.specs.Now.{Now, Resizing, opening, owner_of, resizing_after_lock, changed_by, now_after_event, now_after, now_of}
+use Rattle.intern_log.specs.Now.{Now, Resizing, opening, owner_of, resizing_after_lock, changed_by, now_after_event, now_after}
 use Rattle.intern_log.specs.Own.{is_among}
 use Rattle.intern_log.proofs.LawfulLaws.{now_after-append}
 use Rattle.atomic_step.specs.declared.plan.Plan.TheVariants as plan
@@ -24,9 +19,7 @@ use Rattle.call_machine.specs.declared.grace.Grace.{Grace}
 use Rattle.call_machine.specs.declared.machine.Machine.{Machine}
 use Rattle.call_machine.specs.declared.machine.Own.{Own}
 use Rattle.call_machine.specs.declared.work.Work.{Work}
-use Rattle.call_machine.specs.Machine.{caller_of, started, begun_grace_poll, begun_work_poll, plan_of, got_of, shape_of, number_of, IsOfWork}
-use Rattle.call_machine.specs.SoundMachine.{HasHandle, IsAllowed, IsSoundOwn, MayStart, IsSoundMachine, FitsMachine}
-use Rattle.call_machine.proofs.Machines.{step_law}
+use Rattle.call_machine.specs.Machine.{caller_of, begun_grace_poll, begun_work_poll, plan_of, got_of, shape_of, IsOfWork}
 use Rattle.cht_core.specs.declared.table.Table.{Table}
 use Rattle.cht_core.specs.Causes.{now_in, IsResting}
 use Rattle.cht_core.specs.Caused.{MayCause}
@@ -84,75 +77,12 @@ causes_begin t i seen own (call.Kill h) is = absurd is
 causes_begin t i seen own call.PollWork is = absurd is
 causes_begin t i seen own call.PollGrace is = absurd is
 
--- and its seat has nothing unfinished
-nothing_by : (kind : Kind) (work grace : Bool) (c : Call) → IsBeginCall c → IsAllowed kind work grace c → (work ≡ false) × (grace ≡ false)
-nothing_by kind work grace call.BeginClean is allowed = allowed
-nothing_by kind work grace call.BeginGrow is allowed = allowed
-nothing_by kind work grace call.BeginShrink is allowed = allowed
-nothing_by kind work grace call.BeginGrace is allowed = allowed
-nothing_by kind work grace (call.Sweep text) is allowed = allowed
-nothing_by kind work grace call.Split is allowed = absurd is
-nothing_by kind work grace (call.Intern text) is allowed = absurd is
-nothing_by kind work grace (call.Lookup text) is allowed = absurd is
-nothing_by kind work grace (call.InternWait text) is allowed = absurd is
-nothing_by kind work grace (call.TextOf h) is allowed = absurd is
-nothing_by kind work grace (call.Drop h) is allowed = absurd is
-nothing_by kind work grace (call.Permanent h) is allowed = absurd is
-nothing_by kind work grace (call.Kill h) is allowed = absurd is
-nothing_by kind work grace call.PollWork is allowed = absurd is
-nothing_by kind work grace call.PollGrace is allowed = absurd is
-
-is_none : {A : Type 0} (x : Option A) → is_some x ≡ false → None ≡ x
-is_none None not = refl
-is_none (Some a) not = absurd (cc)
-
-own_is : (own : Own) (number cursor : ℕ) → number ≡ own.number → cursor ≡ own.cursor → None ≡ own.work → None ≡ own.grace → record { number = number; cursor = cursor; work = None; grace = None } ≡ own
-own_is own number cursor number_is cursor_is work grace = λ i. record { number = number_is i; cursor = cursor_is i; work = work i; grace = grace i }
-
--- THE COUNTER IS LOADED
-
--- the machine of a call whose first step was made
-pub record HasStarted (cht : Cht) (b : Sight) (own : Own) (c : Call) (word : ℕ) : Type 0 where
-  pub sound : IsSoundOwn cht.origin.table.shape own
-  pub may : MayStart cht.origin.table.kind cht.origin.table.shape own c
-  pub is : started cht.origin.table.kind cht.origin.table.shape cht.origin.seed own c ≡ first_of b c
-  pub fits : FitsMachine (first_of b c) word
-
-module _ (cht : Cht) (b w sight : Sight) (number cursor : ℕ) (c call : Call) (word : ℕ) (of : b.origin ≡ cht.origin) (seat : (number ≡ b.number) × (cursor ≡ (own_at b.seat).cursor)) (may : MayCall b c) (begins : IsBeginCall c)
-    (began : (sight ≡ b) × (call ≡ c)) (went : GoesFirst call b word w) where
-  goes : GoesFirst c b word w
-  goes = subst (λ (x : Call). GoesFirst x b word w) began.1 went
-
-  first : ToldFirst c step.LoadCounter b word w
-  first = goes step.LoadCounter (counts_is b c begins)
-
-  abbrev pub own : Own
-  own = record { number = number; cursor = cursor; work = None; grace = None }
-
-  same_own : own ≡ own_at b.seat
-  same_own =
-      let nothing = nothing_by b.origin.table.kind (is_some (own_at b.seat).work) (is_some (own_at b.seat).grace) c begins may.allowed in
-      own_is (own_at b.seat) number cursor (seat.0 ∙ sym first.number_is) seat.1 (is_none (own_at b.seat).work nothing.0) (is_none (own_at b.seat).grace nothing.1)
-
-  pub has_started : HasStarted cht b own c word
-  has_started =
-      let sound : IsSoundOwn cht.origin.table.shape own = subst (λ (z : Origin × Own). IsSoundOwn z.0.table.shape z.1) (λ i. (of i, sym same_own i)) first.own in
-      record {
-        sound = sound;
-        may = (
-          sound.0,
-          subst (λ (o : Origin). HasHandle o.table.shape c) of may.handle,
-          subst (λ (z : Origin × Own). IsAllowed z.0.table.kind (is_some z.1.work) (is_some z.1.grace) c) (λ i. (of i, sym same_own i)) may.allowed,
-        );
-        is = ap (λ (z : Origin × Own). started z.0.table.kind z.0.table.shape z.0.seed z.1 c) (λ i. (sym of i, same_own i));
-        fits = first.told.found.fits;
-      }
-
-  pub ran_started : (m n : Machine) → IsSound cht.origin.table.shape → cht.origin.seed < 2 ^ 32 → m ≡ started cht.origin.table.kind cht.origin.table.shape cht.origin.seed own c → n ≡ got_of m word → Ran sight call w n
-  ran_started m n shape seed starts got =
-      let ran : Ran b c w (got_of (first_of b c) word) = ran_first b c w step.LoadCounter word (subst (λ (o : Origin). IsSound o.table.shape) (sym of) shape) (subst (λ (o : Origin). o.seed < 2 ^ 32) (sym of) seed) may
-      (λ told. causes_begin b.origin.table b.number (log_of b.history) (own_at b.seat) c begins) (counts_first b c begins).1 (counts_is b c begins) goes in
-      subst (λ (z : Sight × Call × Machine). Ran z.0 z.1 w z.2) (λ i. (sym began.0 i, sym began.1 i, (ap (λ (x : Machine). got_of x word) (sym has_started.is ∙ sym starts) ∙ sym got) i)) ran
+pub ran_begun : (cht : Cht) (b v w : Sight) (c : Call) (word : ℕ) → v.origin ≡ cht.origin → b ≡ v → MayCall v c → IsBeginCall c → IsSound cht.origin.table.shape → cht.origin.seed < 2 ^ 32 → GoesFirst c v word w →
+    Ran b c w (got_of (first_of b c) word)
+ran_begun cht b v w c word of same may begins shape seed told =
+    subst (λ (x : Sight). Ran x c w (got_of (first_of x c) word)) (sym same)
+    (ran_first v c w step.LoadCounter word (subst (λ (o : Origin). IsSound o.table.shape) (sym of) shape) (subst (λ (o : Origin). o.seed < 2 ^ 32) (sym of) seed) may
+    (λ first. causes_begin v.origin.table v.number (log_of v.history) (own_at v.seat) c begins) (counts_of_work v c begins) (counts_is v c begins) told)
 
 -- WHO HAS THE RESIZE LOCK
 
@@ -241,9 +171,6 @@ module _ (cht : Cht) (b w sight : Sight) (c : Call) (s : Step) (word : ℕ) (m :
   first_planned : plan_of (first_of b c) ≡ plan.Step s
   first_planned = ap plan_of (sym first_is) ∙ planned
 
-  pub resumed_fits : FitsMachine m word
-  resumed_fits = subst (λ (x : Machine). FitsMachine x word) (sym first_is) (went s first_planned).told.found.fits
-
   pub ran_resumed : (n : Machine) → IsSound cht.origin.table.shape → cht.origin.seed < 2 ^ 32 → sight ≡ b → n ≡ got_of m word → Ran sight c w n
   ran_resumed n shape seed began got =
       let ran : Ran b c w (got_of (first_of b c) word) = ran_first b c w s word (subst (λ (o : Origin). IsSound o.table.shape) (sym of) shape) (subst (λ (o : Origin). o.seed < 2 ^ 32) (sym of) seed) may
@@ -274,9 +201,3 @@ poll_shape b (call.TextOf h) is = absurd is
 poll_shape b (call.Drop h) is = absurd is
 poll_shape b (call.Permanent h) is = absurd is
 poll_shape b (call.Kill h) is = absurd is
-
--- the first step of a sound poll is sound
-pub poll_step : (cht : Cht) (b : Sight) (c : Call) (m : Machine) (s : Step) → b.origin ≡ cht.origin → IsPollCall c → m ≡ first_of b c → IsSoundMachine m → number_of m ≡ b.number → plan_of m ≡ plan.Step s →
-    IsSoundStep cht.origin.table.shape b.number s
-poll_step cht b c m s of polls first sound number planned =
-    subst (λ (shape : Shape). IsSoundStep shape b.number s) (ap shape_of first ∙ poll_shape b c polls ∙ ap (λ (o : Origin). o.table.shape) of) (subst (λ n. IsSoundStep (shape_of m) n s) number (step_law m s sound planned))

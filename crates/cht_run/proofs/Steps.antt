@@ -3,7 +3,7 @@ use Rattle.std.proofs.Common.{◌≡◌, ◌≢◌, ◌⊎◌, ⊎_elim, ℕ, �
 use Rattle.std.proofs.lemmas.Bool.{cases_eq, ltb-true, ltb-false, eq-eqb, eqb-true, ne_eqb}
 use Rattle.std.proofs.lemmas.List.{append-nil, append_assoc, length-set, length-append}
 use Rattle.std.proofs.lemmas.List.Elements.{All-nil}
-use Rattle.std.specs.Option.{option_to_list}
+use Rattle.std.specs.Option.{option_map, option_to_list}
 use mathlib.Core.Option.{some, some-injective}
 use lib.ListN.{get_elem?}
 use Rattle.atomic_table.specs.Table.{State, Me, keeps, stepped, Allows}
@@ -14,7 +14,7 @@ use Rattle.table_shape.specs.Place.{index_of, IsInside}
 use Rattle.table_shape.proofs.Places.{index_within}
 use Rattle.intern_log.specs.declared.event.Event.{Event}
 use Rattle.intern_log.specs.declared.event.What.{What}
-use Rattle.intern_log.specs.Now.{Now, with_at, now_of}
+use Rattle.intern_log.specs.Now.{Now, Resizing, with_at, now_of, owner_of}
 use Rattle.intern_log.specs.Own.{is_among}
 use Rattle.atomic_step.specs.declared.access.Deed.{Deed}
 use Rattle.atomic_step.specs.declared.access.Deed.TheVariants as deed
@@ -33,6 +33,7 @@ use Rattle.call_machine.specs.declared.machine.Machine.TheVariants as machine
 use Rattle.call_machine.specs.declared.machine.Own.{Own}
 use Rattle.call_machine.specs.Machine.{plan_of, got_of, event_of, shape_of, text_of, passed_of, IsSameMachine}
 use Rattle.call_machine.specs.SoundMachine.{IsSoundMachine, FitsMachine}
+use Rattle.call_machine.specs.WholeMachine.{has_lock}
 use Rattle.call_machine.proofs.Machines.{step_law, same_law}
 use Rattle.cht_core.specs.declared.seat.Seat.{Seat}
 use Rattle.cht_core.specs.declared.seat.Seat.TheVariants as doing
@@ -44,7 +45,7 @@ use Rattle.cht_core.specs.Causes.{now_in}
 use Rattle.cht_core.specs.HeadKept.{Headed}
 use Rattle.cht_core.specs.Invariant.{Inv, Moves, events_of}
 use Rattle.cht_core.specs.Memory.{Memory, IsMade, found, memory_of}
-use Rattle.cht_core.specs.Owes.{Owes}
+use Rattle.cht_core.specs.Owes.{Owes, IsAllOf}
 use Rattle.cht_core.specs.Parts.{call_of}
 use Rattle.cht_core.specs.Past.{Past, past_of, MayTell, kind_of}
 use Rattle.cht_core.specs.State.{drawn_in, HasResting}
@@ -69,9 +70,11 @@ use Rattle.cht_run.specs.declared.sight.Entry.{Entry}
 use Rattle.cht_run.specs.declared.sight.Sight.{Sight}
 use Rattle.cht_run.specs.History.{log_of, draws_of, is_drawn, NoneBy, IsOrderly, IsNumbered, AreOut, Follows}
 use Rattle.cht_run.specs.ReadKept.{MachineKept, MachineReads}
-use Rattle.cht_run.specs.Rule.{IsNew, view_of, is_seat, Owns, HeadedIn, ReadsIn, IsPart, Fits, CountsDraws, IsSnapshot, Kept}
+use Rattle.cht_run.specs.Covers.{MachineCovers, MachineEnds}
+use Rattle.cht_run.specs.Rule.{IsNew, view_of, is_seat, Owns, HeadedIn, ReadsIn, SeatCovers, CoversIn, IsPart, Fits, CountsDraws, IsSnapshot, Kept}
 use Rattle.cht_run.specs.Told.{adds, kids_after, given_after, sight_after, Found, Told, IsAbout}
 use Rattle.intern_log.proofs.OneMore.{place_is}
+use Rattle.cht_run.proofs.Covering.{machine_covers, machine_ends}
 use Rattle.cht_run.proofs.FoundOut.{work_found}
 use Rattle.cht_run.proofs.Handles.{has_handles}
 use Rattle.cht_run.proofs.ReadKept.{reads_waits, reads_steps, reads_say}
@@ -224,6 +227,43 @@ module _ (o : Origin) (s : Seats) (k : Kept o s) (id : ℕ) (v : Sight) (at : ge
 
   reading : MachineKept m p.now.seed log mach
   reading = subst (λ seed. MachineKept m seed log mach) (sym k.seed) (subst (ReadsIn o m log) about.running part.reads)
+
+  -- WHERE NOBODY ELSE IS THERE
+
+  event_found : steps.event_of (text_of mach) stp (found stp m) ≡ event_of mach word
+  event_found = ap (steps.event_of (text_of mach) stp) found_is ∙ sym (event_is mach stp word about.plan)
+
+  module _ (none_out : v.kids ≡ []) (root : is_among v.numbers 0 ≡ true) where
+    only : (n : ℕ) (u : View) → k.seat n ≡ Some u → n ≡ i
+    only n u is_u =
+        let own : is_among u.numbers n ≡ true = (k.inv.numbers.seats n u is_u).1 in
+        k.inv.numbers.apart n i n u (view_of v) is_u part.at own (alone_has o s k id v at none_out root n (k.drawn n n u is_u own))
+
+    -- nobody has the resize lock, but for the seat itself
+    unowned : has_lock mach ≡ false → p.now.resizing ≡ None
+    unowned without_lock = go p.now.resizing refl
+      where
+        owned_by : (r : Resizing) → p.now.resizing ≡ Some r → (x : Option View) → k.seat r.seat ≡ x → ⊥
+        owned_by r is None at_r = (subst (λ (x : Option View). IsAllOf p r.seat (option_map (λ (y : View). y.seat) x)) at_r (k.inv.owes r.seat)).owner (ap owner_of is)
+        owned_by r is (Some u) at_r =
+            let mine : has_lock mach ≡ true = owes.owner (ap owner_of is ∙ ap Some (only r.seat u at_r)) in
+            let clash : true ≡ false = sym mine ∙ without_lock in
+            cc
+
+        go : (x : Option Resizing) → p.now.resizing ≡ x → x ≡ None
+        go None is = refl
+        go (Some r) is = absurd (owned_by r is (k.seat r.seat) refl)
+
+    covers : MachineCovers m p.now v.passed mach
+    covers = subst (SeatCovers m p.now v.passed) about.running (part.covers none_out root)
+
+    chain_ends : MachineEnds t.shape.slots p.now mach word
+    chain_ends = subst (MachineEnds t.shape.slots p.now mach) found_is (machine_ends t m p k.inv.flow i v.load v.passed k.inv.table mach stp about.plan known.0.seed unowned known.1 covers)
+
+    covers_after : MachineCovers m' (now_in t (log_of history')) after.passed (got_of mach word)
+    covers_after = subst (λ w. MachineCovers m' (now_in t (log_of history')) after.passed (got_of mach w)) found_is
+        (machine_covers t m p k.inv.flow i v.load v.passed k.inv.table m' (now_in t (log_of history')) mach stp about.plan made
+        (λ none. ap (now_in t) (log_is ∙ ap (λ e. log ++ events_of i e) (sym event_found ∙ none) ∙ append-nil log)) known.0.seed unowned known.1 covers)
 
   -- WHAT IT TELLS
 
@@ -446,6 +486,7 @@ module _ (o : Origin) (s : Seats) (k : Kept o s) (id : ℕ) (v : Sight) (at : ge
     found_out = work_found t m' moved (log_of history') inv_moved i own (with_here k.seat i (Some own) i refl) (got_of mach word) refl;
     alone = λ none_out root.
         nothing_since v.numbers v.history fit.seen.later (subst IsOrderly fit.seen.whole k.orderly) (subst (λ kids. AreOut v.numbers kids v.history) none_out fit.out) fit.seen.none root;
+    ended = λ none_out root. subst (λ h. MachineEnds t.shape.slots (now_in t (log_of h)) mach word) fit.seen.whole (chain_ends none_out root);
   }
 
   -- THE RULE AFTER IT
@@ -489,16 +530,13 @@ module _ (o : Origin) (s : Seats) (k : Kept o s) (id : ℕ) (v : Sight) (at : ge
       apart : i ≢ u.number
       apart same = differ (k.apart j id v.number u v at' at (inl (is, same)) (inl (about.seat, refl)))
 
-      event : steps.event_of (text_of mach) stp (found stp m) ≡ event_of mach word
-      event = ap (steps.event_of (text_of mach) stp) found_is ∙ sym (event_is mach stp word about.plan)
-
       go : (x : Seat) → u.seat ≡ x → HeadedIn o m' u.number u.load (log_of history') x
       go (doing.Idle _) is = tt
       go (doing.Running other) is =
           let knows : IsOfSeat t p.now u.number other × KnowsMachine m p k.inv.flow u.number u.load u.passed other =
           subst (λ (x : Seat). Knows t m p k.inv.flow u.number (record (view_of u) { seat = x })) is (k.inv.knows u.number (view_of u) of.at) in
           subst (λ l. Headed t m' u.number u.load l other) (sym log_is)
-          (subst (λ (e : Option What). Headed t m' u.number u.load (log ++ events_of i e) other) event
+          (subst (λ (e : Option What). Headed t m' u.number u.load (log ++ events_of i e) other) event_found
           (headed_waits t m m' k.inv.flow u.number i (text_of mach) stp log u.load apart made backs u.passed other knows.0.seed knows.1 (subst (HeadedIn o m u.number u.load log) is of.headed)))
 
   -- and of the text that it reads
@@ -516,6 +554,12 @@ module _ (o : Origin) (s : Seats) (k : Kept o s) (id : ℕ) (v : Sight) (at : ge
           subst (λ l. MachineKept m' o.seed l other) (sym log_is)
           (reads_waits m m' p _ k.inv.flow _ u.number u.load u.passed o.seed log (events_of i (event_of mach word)) leads.grows other knows.1 (subst (ReadsIn o m log) is of.reads))
 
+  -- who makes a step is not among the numbers of another, so that none of these is alone
+  other_covers : (j : ℕ) (u : Sight) → j ≢ id → get_elem? s.views j ≡ some u → CoversIn o m' (log_of history') u
+  other_covers j u differ at' none_out root =
+      let never : true ≡ false = sym (alone_has o s k j u at' none_out root i mine_drawn) ∙ not_mine o s k id j v u at at' differ about.seat in
+      absurd (cc)
+
   fits_other : (j : ℕ) (u : Sight) → j ≢ id → get_elem? s.views j ≡ some u → Fits o m' seat' history' u
   fits_other j u differ at' = let f = k.fits j u at' in record {
     of = f.of;
@@ -525,7 +569,7 @@ module _ (o : Origin) (s : Seats) (k : Kept o s) (id : ℕ) (v : Sight) (at : ge
       none = none_append u.numbers f.seen.later (adds t.shape i mach stp word) f.seen.none (none_adds u.numbers t.shape i mach stp word (not_mine o s k id j v u at at' differ about.seat));
     };
     part = elim f.part [
-      | inl of ↦ inl (of.0, record { at = other_seat j u differ at' of.0 of.1.at; rests = of.1.rests; headed = other_headed j u differ at' of.0 of.1; reads = other_reads u of.1 })
+      | inl of ↦ inl (of.0, record { at = other_seat j u differ at' of.0 of.1.at; rests = of.1.rests; headed = other_headed j u differ at' of.0 of.1; reads = other_reads u of.1; covers = other_covers j u differ at' })
       | inr none ↦ inr none
     ];
     given = λ own gave. given_still j u own at' gave;
@@ -553,6 +597,13 @@ module _ (o : Origin) (s : Seats) (k : Kept o s) (id : ℕ) (v : Sight) (at : ge
       (subst (λ seed. MachineKept m' seed (log ++ events_of i (event_of mach word)) (got_of mach (found stp m))) k.seed
       (reads_steps t m k.inv.flow i v.load v.passed log seated k.inv.table m' (events_of i (event_of mach word)) mach stp about.plan known.0.kind made known.1 reading)))
 
+  none_before : (drawn : Option ℕ) → kids_after drawn v.kids ≡ [] → v.kids ≡ []
+  none_before None is = is
+  none_before (Some n) is = absurd (cc)
+
+  mine_covers : CoversIn o m' (log_of history') after
+  mine_covers none_out root = covers_after (none_before (drawn_in t.shape stp word) none_out) root
+
   load_is : Rattle.cht_core.specs.Causes.loaded_at (plan_of mach) p.now.place v.load ≡ after.load
   load_is = ap (λ x. Rattle.cht_core.specs.Causes.loaded_at x p.now.place v.load) about.plan
 
@@ -570,6 +621,7 @@ module _ (o : Origin) (s : Seats) (k : Kept o s) (id : ℕ) (v : Sight) (at : ge
             (subst (λ load. Headed t m' i load (log ++ events_of i (event_of mach word)) (got_of mach (found stp m))) load_is
             (headed_steps t m m' i log (events_of i (event_of mach word)) p.now.place v.load (place_is t.shape.min_level log) mach stp about.plan made headed)));
         reads = mine_reads;
+        covers = mine_covers;
       },
     );
     given = λ own gave. given_mine own (drawn_in t.shape stp word) refl gave;

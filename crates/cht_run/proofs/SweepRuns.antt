@@ -1,15 +1,13 @@
 -- A sweep that has answered, by the words that it found.
-use Rattle.std.proofs.Common.{◌≡◌, ℕ, ◌+◌, ◌*◌, ◌^◌, ◌<◌, ◌≤◌, Bool, true, false, List, [], ◌∷◌, ◌++◌, Option, Some, None, refl, sym, ap, subst, ◌∙◌, arith}
+use Rattle.std.proofs.Common.{◌≡◌, ℕ, ◌+◌, ◌^◌, ◌<◌, Bool, true, false, List, [], ◌∷◌, ◌++◌, Option, Some, None, refl, sym, ap, subst, ◌∙◌, arith}
 use Rattle.std.specs.Option.{option_to_list}
-use Rattle.std.specs.Prelude.{nat_le, min, if◌then◌else◌}
+use Rattle.std.specs.Prelude.{nat_le, if◌then◌else◌}
 use Rattle.std.proofs.lemmas.Bool.Decides.{nat_tests}
 use Rattle.text_words.specs.Hash.{hash_of}
 use Rattle.intern_log.specs.declared.event.Event.{Event}
-use Rattle.intern_log.specs.declared.event.What.{What}
 use Rattle.atomic_step.specs.declared.answer.Answer.{Answer}
 use Rattle.atomic_step.specs.declared.answer.Answer.TheVariants as answer
 use Rattle.atomic_step.specs.declared.plan.Plan.TheVariants as plan
-use Rattle.atomic_step.specs.Monitor.{after_all, section}
 use Rattle.atomic_step.specs.Run.{AreFitting, after_words, events_of_words}
 use Rattle.std.specs.Borrow.{Bor}
 use Rattle.atomic_step.proofs.Choices.{either_way}
@@ -34,7 +32,6 @@ use Rattle.call_machine.specs.Grace.{grace_row}
 use Rattle.call_machine.specs.Lock.{lock_row}
 use Rattle.call_machine.specs.Pass.{passes_on, pass_row, free_row}
 use Rattle.call_machine.specs.declared.call.Call.TheVariants as call
-use Rattle.call_machine.specs.declared.caller.Caller.{Caller}
 use Rattle.call_machine.specs.declared.machine.Machine.{Machine}
 use Rattle.call_machine.specs.declared.machine.Machine.TheVariants as machine
 use Rattle.call_machine.specs.declared.machine.Own.{Own}
@@ -43,34 +40,31 @@ use Rattle.call_machine.specs.declared.sweep.SweepAsked.{SweepAsked}
 use Rattle.call_machine.specs.Caller.{IsSoundCaller}
 use Rattle.call_machine.specs.Machine.{plan_of, got_of, event_of, own_of}
 use Rattle.call_machine.specs.SoundMachine.{IsSoundMachine}
-use Rattle.call_machine.specs.Sweep.{begun_sweep, finds_anew, finds_on, locks_on, cleans_on, unlocked, graces_on, frees_on, plan_at, next_at, goes_to, sweep_plan, sweep_got, sweep_event}
+use Rattle.call_machine.specs.Sweep.{begun_sweep, finds_anew, finds_on, locks_on, cleans_on, unlocked, graces_on, frees_on, plan_at, next_at, goes_to, sweep_plan, sweep_got}
 use Rattle.call_machine.specs.WholeMachine.{machines}
-use Rattle.call_machine.specs.WholeSweep.{sweeps, IsToldOf}
-use Rattle.call_machine.specs.WorkMonitor.{locked, unlinks}
+use Rattle.call_machine.specs.WholeSweep.{sweeps}
 use Rattle.call_machine.proofs.Machines.{got_is, event_is, plan_is, fits_part}
 use Rattle.call_machine.proofs.WholeSweep.{sections_end, locks_end, unlinks_end}
 use Rattle.cht_core.specs.declared.table.Table.{Table}
-use Rattle.cht_core.specs.Caused.{way_of, Cause}
 use Rattle.cht_core.specs.Causes.{IsSpent}
 use Rattle.cht_core.specs.Passes.{HasSwept}
 use Rattle.cht_core.specs.Windows.{Somewhere, whats_by}
 use Rattle.cht_run.specs.declared.seat.Seat.{Seat}
 use Rattle.cht_run.specs.declared.sight.Origin.{Origin}
-use Rattle.cht_run.specs.declared.sight.Sight.{Sight}
+use Rattle.cht_run.specs.declared.sweeps.Swept.{Swept}
 use Rattle.cht_run.specs.declared.sweeps.Swept.TheVariants as swept
 use Rattle.cht_run.specs.declared.table.Cht.{Cht}
-use Rattle.cht_run.specs.Begins.{own_at, first_of}
-use Rattle.cht_run.specs.Ended.{Ended, Only}
+use Rattle.cht_run.specs.Begins.{first_of, caller_in}
+use Rattle.cht_run.specs.Ended.{Only}
 use Rattle.cht_run.specs.Ends.{HasNothing}
 use Rattle.cht_run.specs.Graces.{counter_in, IsUnspent}
 use Rattle.cht_run.specs.History.{log_of}
 use Rattle.cht_run.specs.Runs.{Finds, Ran}
 use Rattle.cht_run.specs.Seats.{sight, seen, IsOf}
-use Rattle.cht_run.specs.Sweeps.{SweepDid, HasSweptAll, Sweeps}
+use Rattle.cht_run.specs.SweepSteps.{asks, sweeps_at, ended}
+use Rattle.cht_run.specs.Sweeps.{HasSweptAll, Sweeps}
 use Rattle.cht_run.specs.Told.{SweepFound, WorkFound}
-use Rattle.cht_run.proofs.Begun.{caller_in}
 use Rattle.cht_run.proofs.Ended.{went_ended}
-use Rattle.cht_run.proofs.Goes.{went_answered}
 use Rattle.cht_run.proofs.GraceCalls.{own_left}
 use Rattle.cht_run.proofs.WorkRuns.{finds_own}
 
@@ -256,7 +250,7 @@ module _ (cht : Cht) (old new : Seat) (m : Machine) (text : Bor (List ℕ)) (of 
       let hashed = subst (λ (q : SweepAsked). SweepFound (sight old).origin.table (seen new) (sight old).number q.hash (Answered (answer.Swept unlinked))) (asked_still s ran.words) told in
       subst (λ (z : Origin × ℕ). unlinked < 256 → HasSwept z.0.table.shape.min_level (seen new) z.1 (hash_of z.0.seed text.now)) (λ i. (of.origin i, (sym ran.went.stays.number ∙ sym new.named) i)) hashed
 
-  pub sweep_done : (unlinked : ℕ) → plan_of m ≡ plan.Answered (answer.Swept unlinked) → Sweeps cht.origin text.now old new (swept.Done unlinked)
+  sweep_done : (unlinked : ℕ) → plan_of m ≡ plan.Answered (answer.Swept unlinked) → Sweeps cht.origin text.now old new (swept.Done unlinked)
   sweep_done unlinked answered =
       let (word, rest, is, low, (before, later, at, was)) = begun (answer.Swept unlinked) answered in
       let told = unlinks_end (caller_in (sight old)) (hash_of (sight old).origin.seed text.now) ran.words (answer.Swept unlinked) sound came.fitting (planned (answer.Swept unlinked) answered) in (
@@ -275,7 +269,7 @@ module _ (cht : Cht) (old new : Seat) (m : Machine) (text : Bor (List ℕ)) (of 
         ),
       )
 
-  pub sweep_spent : (counter : ℕ) → plan_of m ≡ plan.Answered (answer.Spent counter) → Sweeps cht.origin text.now old new (swept.Spent counter)
+  sweep_spent : (counter : ℕ) → plan_of m ≡ plan.Answered (answer.Spent counter) → Sweeps cht.origin text.now old new (swept.Spent counter)
   sweep_spent counter answered =
       let (word, rest, is, (none, same), was) = begun (answer.Spent counter) answered in
       let told = unlinks_end (caller_in (sight old)) (hash_of (sight old).origin.seed text.now) ran.words (answer.Spent counter) sound came.fitting (planned (answer.Spent counter) answered) in
@@ -285,11 +279,8 @@ module _ (cht : Cht) (old new : Seat) (m : Machine) (text : Bor (List ℕ)) (of 
             (subst (λ n. Somewhere (λ log. n ≡ counter_in t log) (seen old) window) (sym same) was, told.2.0),
       )
 
-  -- it answers nothing else
-  pub sweeps_nothing_else : (a : Answer) → plan_of m ≡ plan.Answered a → ((unlinked : ℕ) → a ≡ answer.Swept unlinked → ⊥) → ((counter : ℕ) → a ≡ answer.Spent counter → ⊥) → ⊥
-  sweeps_nothing_else a answered not_swept not_spent = let (word, rest, is, so_far, was) = begun a answered in go word rest a so_far not_swept not_spent
-    where
-      go : (word : ℕ) (rest : List ℕ) (b : Answer) → IsSo word rest b → ((unlinked : ℕ) → b ≡ answer.Swept unlinked → ⊥) → ((counter : ℕ) → b ≡ answer.Spent counter → ⊥) → ⊥
-      go word rest (answer.Swept unlinked) so_far not_swept not_spent = not_swept unlinked refl
-      go word rest (answer.Spent counter) so_far not_swept not_spent = not_spent counter refl
-      go word rest _ so_far not_swept not_spent = so_far
+-- it has ended so
+pub swept_so : (cht : Cht) (old new : Seat) (text : Bor (List ℕ)) (along : SweepAlong) (r : Swept) → IsOf cht old → Ran (sight old) (call.Sweep text) (sight new) (sweeps_at (asks (sight old) text.now) along (ended r)) →
+    Sweeps cht.origin text.now old new r
+swept_so cht old new text along (swept.Done unlinked) of ran = sweep_done cht old new (sweeps_at (asks (sight old) text.now) along (ended (swept.Done unlinked))) text of ran unlinked refl
+swept_so cht old new text along (swept.Spent counter) of ran = sweep_spent cht old new (sweeps_at (asks (sight old) text.now) along (ended (swept.Spent counter))) text of ran counter refl

@@ -162,7 +162,7 @@ module _ (o : Origin) (s : Seats) (k : Kept o s) (id : ℕ) (v : Sight) (at : ge
   fits_giver = record {
     of = fit.of;
     seen = fit.seen;
-    part = let part = part_of o mem k.seat k.history v fit is in inl (is, record { at = part.at; rests = part.rests; headed = part.headed; reads = part.reads });
+    part = let part = part_of o mem k.seat k.history v fit is in inl (is, record { at = part.at; rests = part.rests; headed = part.headed; reads = part.reads; covers = part.covers });
     given = λ x never. absurd (cc);
     out = fit.out;
     earlier = fit.earlier;
@@ -182,6 +182,7 @@ module _ (o : Origin) (s : Seats) (k : Kept o s) (id : ℕ) (v : Sight) (at : ge
         rests = rests_child;
         headed = tt;
         reads = tt;
+        covers = λ none_out root. tt;
       },
     );
     given = λ x never. absurd (cc);

@@ -44,13 +44,14 @@ use Rattle.call_machine.proofs.WorkRuns.{cleans_law, resizes_law}
 use Rattle.cht_core.specs.declared.table.Table.{Table}
 use Rattle.cht_core.specs.Causes.{IsSpent, IsBusy, IsAtLevel}
 use Rattle.cht_core.specs.Windows.{Somewhere}
+use Rattle.cht_run.specs.Begins.{caller_in}
 use Rattle.cht_run.specs.declared.seat.Seat.{Seat}
 use Rattle.cht_run.specs.declared.sight.Origin.{Origin}
 use Rattle.cht_run.specs.declared.table.Cht.{Cht}
 use Rattle.cht_run.specs.declared.waits.Finished.TheVariants as finished
 use Rattle.cht_run.specs.declared.works.Tried.{Tried}
 use Rattle.cht_run.specs.declared.works.Tried.TheVariants as tried
-use Rattle.cht_run.specs.declared.works.Work.{Work}
+use Rattle.cht_run.specs.declared.work.Work.{Work}
 use Rattle.cht_run.specs.Ended.{Ended, Always, Only}
 use Rattle.cht_run.specs.Ends.{HasNothing}
 use Rattle.cht_run.specs.Graces.{counter_in, IsUnspent}
@@ -58,7 +59,6 @@ use Rattle.cht_run.specs.History.{log_of}
 use Rattle.cht_run.specs.Seats.{sight, history, seen, work_of, IsOf}
 use Rattle.cht_run.specs.Waits.{CleanDid, heads_left, HasGraces, ResizeDid, FinishesWork, DidSo, FinishedSo, Finishes}
 use Rattle.cht_run.specs.Works.{HasFinished, IsWorkOf, HasBegun, IsRefused, WasLevel, IsBound, left_by, WasSo, BeginsWork, Runs, IsDone, IsLeft, Leaves}
-use Rattle.cht_run.proofs.Begun.{caller_in}
 use Rattle.cht_run.proofs.DeadUnlinked.{unlinks_dead}
 use Rattle.cht_run.proofs.Histories.{log-append}
 use Rattle.cht_run.proofs.Following.{because, ended_both, not_called, later, earlier}
@@ -201,9 +201,7 @@ resize_did shape d level did worked last sound leads runs =
 
 -- the work that was begun leads to a level of the table
 leads_so : (cht : Cht) (mid : Seat) (w : Work) (d : Direction) (level : ℕ) → IsOf cht mid → IsWorkOf w (resize_from d level) mid → LeadsToLevel cht.origin.table.shape d level
-leads_so cht mid w d level of has =
-    let sound = subst IsSoundMachine (has.next.first ∙ ap (begun_work_poll (caller_in (sight mid))) has.unfinished) has.next.sound in
-    subst (λ (o : Origin). LeadsToLevel o.table.shape d level) of.origin sound.work.along.level
+leads_so cht mid w d level of has = subst (λ (o : Origin). LeadsToLevel o.table.shape d level) of.origin has.sound.along.level
 
 some_work : (x y : Working) → Some x ≡ Some y → x ≡ y
 some_work x y same = cc

@@ -1,5 +1,5 @@
 -- What a walk that has answered comes to.
-use Rattle.std.proofs.Common.{◌≡◌, ℕ, true, List, [], ◌∷◌, None, refl, sym, ap, subst, ◌∙◌, arith}
+use Rattle.std.proofs.Common.{◌≡◌, ℕ, true, List, [], ◌∷◌, inl, inr, refl, sym, ap, subst, ◌∙◌, arith}
 use Rattle.std.proofs.lemmas.List.{append-nil}
 use Rattle.intern_log.specs.declared.event.Event.{Event}
 use Rattle.intern_log.specs.declared.event.Handle.{Handle}
@@ -87,7 +87,7 @@ module _ (cht : Cht) (text : List ℕ) (old new : Seat) where
   looked_up is (try_lookup.Hit h) w =
       renamed (LooksUp text (try_lookup.Hit h)) (WhyLooksUp old.number text (try_lookup.Hit h)) (λ events did. hit_walk Counted (asked_for cht old Lookup text) h events is did.0) (λ seen window why. tt) w.ended
   looked_up is try_lookup.Miss w = renamed (LooksUp text try_lookup.Miss) (WhyLooksUp old.number text try_lookup.Miss) (λ events did. did.0) (λ seen window why. why) w.ended
-  looked_up is try_lookup.Again w = renamed (LooksUp text try_lookup.Again) (WhyLooksUp old.number text try_lookup.Again) (λ events did. did.0) (λ seen window why. why) w.ended
+  looked_up is try_lookup.Again w = renamed (LooksUp text try_lookup.Again) (WhyLooksUp old.number text try_lookup.Again) (λ events did. did.0) (λ seen window why. why.1) w.ended
 
   abbrev pub find_answer : TryFind → Answer
   find_answer (try_find.Hit h) = answer.Hit h
@@ -113,7 +113,9 @@ module _ (cht : Cht) (text : List ℕ) (old new : Seat) where
   pub interned : (r : TryIntern) → IsShorter r → Walked cht Intern text old new (intern_answer r) → Ended cht.origin.table old new (Interns text r) (WhyInterns cht.origin.table old.number text r)
   interned try_intern.TooLong short w = absurd short
   interned (try_intern.Taken h) short w = renamed (Interns text (try_intern.Taken h)) (WhyInterns cht.origin.table old.number text (try_intern.Taken h)) (λ events did. did.0) (λ seen window why. tt) w.ended
-  interned try_intern.Again short w = renamed (Interns text try_intern.Again) (WhyInterns cht.origin.table old.number text try_intern.Again) (λ events did. did.0) (λ seen window why. why) w.ended
+  interned try_intern.Again short w =
+      renamed (Interns text try_intern.Again) (WhyInterns cht.origin.table old.number text try_intern.Again) (λ events did. did.0)
+      (λ seen window why. elim why [ inl count ↦ inl count.1 | inr head ↦ inr head ]) w.ended
   interned try_intern.Locked short w = renamed (Interns text try_intern.Locked) (WhyInterns cht.origin.table old.number text try_intern.Locked) (λ events did. did.0) (λ seen window why. why) w.ended
   interned try_intern.NoSlot short w =
       renamed (Interns text try_intern.NoSlot) (WhyInterns cht.origin.table old.number text try_intern.NoSlot) (λ events did. record { walk = did.0; none = did.1 }) (λ seen window why. why) w.ended
@@ -131,14 +133,17 @@ module _ (cht : Cht) (text : List ℕ) (old new : Seat) where
   IsShorterWeak weak.TooLong = ⊥
   IsShorterWeak _ = Unit {0}
 
-  pub interned_weak : (r : TryInternWeak) → IsShorterWeak r → Walked cht Intern text old new (intern_weak_answer r) → Ended cht.origin.table old new (InternsWeak text r) (WhyInternsWeak cht.origin.table old.number text r)
-  interned_weak weak.TooLong short w = absurd short
-  interned_weak (weak.Found h) short w = renamed (InternsWeak text (weak.Found h)) (WhyInternsWeak cht.origin.table old.number text (weak.Found h)) (λ events did. did.0) (λ seen window why. tt) w.ended
-  interned_weak weak.Again short w = renamed (InternsWeak text weak.Again) (WhyInternsWeak cht.origin.table old.number text weak.Again) (λ events did. did.0) (λ seen window why. why) w.ended
-  interned_weak weak.Locked short w = renamed (InternsWeak text weak.Locked) (WhyInternsWeak cht.origin.table old.number text weak.Locked) (λ events did. did.0) (λ seen window why. why) w.ended
-  interned_weak weak.NoSlot short w =
+  pub interned_weak : cht.origin.table.kind ≡ Weak → (r : TryInternWeak) → IsShorterWeak r → Walked cht Intern text old new (intern_weak_answer r) →
+      Ended cht.origin.table old new (InternsWeak text r) (WhyInternsWeak cht.origin.table old.number text r)
+  interned_weak is weak.TooLong short w = absurd short
+  interned_weak is (weak.Found h) short w = renamed (InternsWeak text (weak.Found h)) (WhyInternsWeak cht.origin.table old.number text (weak.Found h)) (λ events did. did.0) (λ seen window why. tt) w.ended
+  interned_weak is weak.Again short w =
+      renamed (InternsWeak text weak.Again) (WhyInternsWeak cht.origin.table old.number text weak.Again) (λ events did. did.0)
+      (λ seen window why. elim why [ inl count ↦ (let clash : Counted ≡ Weak = sym count.0 ∙ is in absurd (cc)) | inr head ↦ head ]) w.ended
+  interned_weak is weak.Locked short w = renamed (InternsWeak text weak.Locked) (WhyInternsWeak cht.origin.table old.number text weak.Locked) (λ events did. did.0) (λ seen window why. why) w.ended
+  interned_weak is weak.NoSlot short w =
       renamed (InternsWeak text weak.NoSlot) (WhyInternsWeak cht.origin.table old.number text weak.NoSlot) (λ events did. record { walk = did.0; none = did.1 }) (λ seen window why. why) w.ended
-  interned_weak (weak.Created h) short w = renamed (InternsWeak text (weak.Created h)) (WhyInternsWeak cht.origin.table old.number text (weak.Created h)) (λ events did. did.0) (λ seen window why. tt) w.ended
+  interned_weak is (weak.Created h) short w = renamed (InternsWeak text (weak.Created h)) (WhyInternsWeak cht.origin.table old.number text (weak.Created h)) (λ events did. did.0) (λ seen window why. tt) w.ended
 
 -- A text that no slot has room for has no entry, as a seat sees that loads a word.
 pub too_long_since : (cht : Cht) (old new : Seat) (index word : ℕ) (text : List ℕ) → is_too_long cht.origin.table.shape text ≡ true → Looked cht.origin index (sight old) word (sight new) → Ended cht.origin.table old new (AreOfWalk []) (λ seen window. Somewhere (IsAbsent text) seen window)

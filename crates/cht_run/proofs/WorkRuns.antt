@@ -28,6 +28,7 @@ use Rattle.cht_core.specs.Invariant.{events_of as told_by}
 use Rattle.cht_core.proofs.Windows.{whats_of, whats_by-append, whats_by_own}
 use Rattle.cht_run.specs.Runs.{Finds}
 use Rattle.cht_run.specs.Works.{Runs}
+use Rattle.cht_run.proofs.FullPasses.{runs_with_few}
 use Rattle.cht_run.proofs.PollAnswers.{AnswersSo, poll_on}
 
 -- THE EVENTS OF A RUN
@@ -118,7 +119,7 @@ events_both m s [] ys = refl
 events_both m s (x ∷ xs) ys = ap (λ l. option_to_list (m.event s x) ++ l) (events_both m (m.got s x) xs ys) ∙ sym (append_assoc (option_to_list (m.event s x)) (events_of_words m (m.got s x) xs) (events_of_words m (after_words m (m.got s x) xs) ys))
 
 pub runs_none : (shape : Shape) (from : Work) → Runs shape from [] (resumes from)
-runs_none shape from = record { words = []; fitting = tt; leads = refl; made = refl }
+runs_none shape from = record { words = []; fitting = tt; leads = refl; made = refl; few = runs_with_few shape from [] }
 
 pub runs_both : (shape : Shape) (from mid : Work) (did more : List What) (to : Work × Option Answer) → Runs shape from did (resumes mid) → Runs shape mid more to → Runs shape from (did ++ more) to
 runs_both shape from mid did more to first second =
@@ -128,4 +129,5 @@ runs_both shape from mid did more to first second =
       fitting = fitting_both m (resumes from) first.words second.words first.fitting (subst (λ at. AreFitting m at second.words) (sym first.leads) second.fitting);
       leads = after_both m (resumes from) first.words second.words ∙ ap (λ at. after_words m at second.words) first.leads ∙ second.leads;
       made = events_both m (resumes from) first.words second.words ∙ ap (λ at. events_of_words m (resumes from) first.words ++ events_of_words m at second.words) first.leads ∙ (λ i. first.made i ++ second.made i);
+      few = runs_with_few shape from (first.words ++ second.words);
     }

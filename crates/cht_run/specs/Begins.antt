@@ -6,7 +6,8 @@ use Rattle.atomic_step.specs.declared.step.Step.{Step}
 use Rattle.call_machine.specs.declared.call.Call.{Call}
 use Rattle.call_machine.specs.declared.machine.Machine.{Machine}
 use Rattle.call_machine.specs.declared.machine.Own.{Own}
-use Rattle.call_machine.specs.Machine.{started, plan_of, own_of, shape_of, number_of}
+use Rattle.call_machine.specs.declared.caller.Caller.{Caller}
+use Rattle.call_machine.specs.Machine.{caller_of, started, plan_of, own_of, shape_of, number_of}
 use Rattle.call_machine.specs.SoundMachine.{HasHandle, IsAllowed, IsSoundMachine, IsSoundOwn, FitsMachine}
 use Rattle.call_machine.specs.declared.work.Work.{Work}
 use Rattle.intern_log.specs.Now.{owner_of}
@@ -40,6 +41,10 @@ is_resting (doing.Running m) = is_over (plan_of m)
 -- the machine of a call of a seat as it begins
 abbrev pub first_of : Sight → Call → Machine
 first_of v c = started v.origin.table.kind v.origin.table.shape v.origin.seed (own_at v.seat) c
+
+-- who calls
+abbrev pub caller_in : Sight → Caller
+caller_in v = caller_of v.origin.table.kind v.origin.table.shape v.origin.seed (own_at v.seat)
 
 -- the seat as the call begins
 abbrev pub begun : Sight → Call → Sight

@@ -17,6 +17,7 @@ use Rattle.cht_core.specs.Windows.{whats_by}
 use Rattle.cht_run.specs.declared.sight.Entry.{Entry}
 use Rattle.cht_run.specs.declared.sight.Sight.{Sight}
 use Rattle.cht_run.specs.Begins.{own_at, HasLedger, IsSoundOf}
+use Rattle.cht_run.specs.Covers.{MachinePassed}
 use Rattle.cht_run.specs.declared.table.Cht.{Cht}
 use Rattle.cht_run.specs.History.{log_of, HasSeen, entries_by, told_by}
 use Rattle.cht_run.specs.Rule.{root_of}
@@ -49,6 +50,8 @@ pub record Went (b : Sight) (c : Call) (v : Sight) (m : Machine) : Type 0 where
   pub sound : IsSoundOf b.origin b.number m
   pub few : passed_of m ≤ b.origin.table.shape.slots
   pub found_out : WorkFound b.origin.table (log_of v.history) b.number m
+  -- where all other seats have come back, a walk that has come to the end of its chain has passed all of it
+  pub exact : b.kids ≡ [] → is_among b.numbers 0 ≡ true → MachinePassed b.origin.table (log_of b.history) m
 
 -- a try call as it is at a stage, beside what its seat has unfinished
 abbrev pub at_stage : Sight → Asked → Along → CallStage → Machine

@@ -1,29 +1,21 @@
 -- How calls end that begin a grace or a work, or poll a grace.
-use Rattle.std.specs.Prelude.{◌≡◌, ◌≢◌, ℕ, ◌+◌, ◌*◌, ◌^◌, ◌<◌, ◌≤◌, true, List, [], ◌∷◌, ◌++◌, None, Some, is_some}
+use Rattle.std.specs.Prelude.{◌≡◌, ℕ, ◌+◌, ◌*◌, ◌^◌, ◌<◌, ◌≤◌, List, [], ◌∷◌, ◌++◌, None, Some}
 use Rattle.intern_log.specs.declared.event.Event.{Event}
-use Rattle.intern_log.specs.declared.event.What.{What}
 use Rattle.intern_log.specs.declared.event.What.TheVariants as what
-use Rattle.call_machine.specs.declared.call.Call.{Call}
-use Rattle.call_machine.specs.declared.call.Call.TheVariants as call
 use Rattle.call_machine.specs.declared.grace.Grace.{Grace as Gracing}
-use Rattle.call_machine.specs.declared.machine.Machine.{Machine}
-use Rattle.call_machine.specs.Machine.{number_of}
-use Rattle.call_machine.specs.SoundMachine.{IsSoundMachine}
 use Rattle.cht_core.specs.declared.table.Table.{Table}
 use Rattle.cht_core.specs.Causes.{now_in, IsSpent, IsOpenBelow}
 use Rattle.cht_core.specs.Past.{by}
-use Rattle.cht_core.specs.Windows.{Somewhere, whats_by}
+use Rattle.cht_core.specs.Windows.{Somewhere}
 use Rattle.cht_run.specs.declared.graces.BeganGrace.{BeganGrace}
 use Rattle.cht_run.specs.declared.graces.BeganGrace.TheVariants as began
 use Rattle.cht_run.specs.declared.graces.Grace.{Grace}
 use Rattle.cht_run.specs.declared.graces.PolledGrace.{PolledGrace}
 use Rattle.cht_run.specs.declared.graces.PolledGrace.TheVariants as polled
 use Rattle.cht_run.specs.declared.seat.Seat.{Seat}
-use Rattle.cht_run.specs.Begins.{first_of}
 use Rattle.cht_run.specs.Ended.{Ended, Only}
 use Rattle.cht_run.specs.Ends.{HasNothing}
-use Rattle.cht_run.specs.History.{log_of}
-use Rattle.cht_run.specs.Seats.{sight, history, seen, numbers, kids, work_of, grace_of}
+use Rattle.cht_run.specs.Seats.{seen, numbers, work_of, grace_of}
 
 -- the grace counter of a log; and at a place of the window it was not too great for a new grace, work or sweep
 abbrev pub counter_in : Table → List Event → ℕ
@@ -40,18 +32,13 @@ IsRaised t i raised seen window = (before rest : List Event) × (window ≡ befo
 abbrev pub IsPassed : Table → ℕ → ℕ → List Event → Type 0
 IsPassed t raised number log = (before rest : List Event) × (log ≡ before ++ rest) × (raised ≤ counter_in t before) × ¬ (IsOpenBelow t number raised before)
 
--- the machine is that of the next poll of what a seat has unfinished
-pub record IsNext (m : Machine) (c : Call) (seat : Seat) : Type 0 where
-  pub first : m ≡ first_of (sight seat) c
-  pub sound : IsSoundMachine m
-  pub number : number_of m ≡ seat.number
-
 -- the seat has begun the grace: the counter was raised for it, and it has passed the numbers before the next one
 pub record IsGraceOf (t : Table) (grace : Grace) (seat : Seat) : Type 0 where
   pub state : Gracing
   pub unfinished : grace_of seat ≡ Some state
   pub no_work : work_of seat ≡ None
-  pub next : IsNext grace.poll call.PollGrace seat
+  pub is : grace.state ≡ state
+  pub inside : state.next < t.shape.seats
   pub raised : state.raised ≤ counter_in t (seen seat)
   pub passed : (number : ℕ) → number < state.next → IsPassed t state.raised number (seen seat)
 

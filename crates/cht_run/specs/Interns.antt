@@ -63,11 +63,12 @@ WhyInterns t i text try_intern.Again seen window = IsLost t i text seen window
 WhyInterns t i text try_intern.Locked seen window = WasLocked t text seen window
 WhyInterns t i text try_intern.NoSlot seen window = FoundNoSlot t text seen window
 
+-- in a weak table no count is ever exchanged for an intern: a head was lost
 abbrev pub WhyInternsWeak : Table → ℕ → List ℕ → TryInternWeak → List Event → List Event → Type 0
 WhyInternsWeak t i text weak.TooLong seen window = window ≡ []
 WhyInternsWeak t i text (weak.Found h) seen window = Unit {0}
 WhyInternsWeak t i text (weak.Created h) seen window = Unit {0}
-WhyInternsWeak t i text weak.Again seen window = IsLost t i text seen window
+WhyInternsWeak t i text weak.Again seen window = HeadLost t i text seen window
 WhyInternsWeak t i text weak.Locked seen window = WasLocked t text seen window
 WhyInternsWeak t i text weak.NoSlot seen window = FoundNoSlot t text seen window
 

@@ -6,13 +6,14 @@ use Rattle.atomic_table.specs.Table.{State}
 use Rattle.table_shape.specs.declared.place.Place.TheVariants as place
 use Rattle.table_shape.specs.Shape.{words_of}
 use Rattle.intern_log.specs.declared.event.Event.{Event}
-use Rattle.intern_log.specs.Now.{now_of}
+use Rattle.intern_log.specs.Now.{Now, now_of}
 use Rattle.intern_log.specs.Own.{is_among}
 use Rattle.call_machine.specs.declared.machine.Own.{Own}
 use Rattle.cht_core.specs.declared.seat.Seat.{Seat}
 use Rattle.cht_core.specs.declared.seat.Seat.TheVariants as doing
 use Rattle.cht_core.specs.declared.table.Table.{Table}
 use Rattle.cht_core.specs.Begins.{first_own, new_view}
+use Rattle.cht_core.specs.Causes.{now_in}
 use Rattle.cht_core.specs.HeadKept.{Headed}
 use Rattle.cht_core.specs.Invariant.{Inv}
 use Rattle.cht_core.specs.Memory.{Memory, memory_of}
@@ -22,6 +23,7 @@ use Rattle.cht_core.specs.Windows.{IsTold}
 use Rattle.cht_run.specs.declared.sight.Origin.{Origin}
 use Rattle.cht_run.specs.declared.sight.Entry.{Entry}
 use Rattle.cht_run.specs.declared.sight.Sight.{Sight}
+use Rattle.cht_run.specs.Covers.{MachineCovers}
 use Rattle.cht_run.specs.ReadKept.{MachineKept}
 use Rattle.cht_run.specs.History.{log_of, draws_of, is_drawn, NoneBy, IsOrderly, IsNumbered, AreOut, Follows, Remembers}
 
@@ -47,12 +49,21 @@ abbrev pub ReadsIn : Origin → Memory → List Event → Seat → Type 0
 ReadsIn o m log (doing.Idle own) = Unit {0}
 ReadsIn o m log (doing.Running machine) = MachineKept m o.seed log machine
 
+-- and of its chain, where all other seats have come back to it
+abbrev pub SeatCovers : Memory → Now → List ℕ → Seat → Type 0
+SeatCovers m n passed (doing.Idle own) = Unit {0}
+SeatCovers m n passed (doing.Running machine) = MachineCovers m n passed machine
+
+abbrev pub CoversIn : Origin → Memory → List Event → Sight → Type 0
+CoversIn o m log v = v.kids ≡ [] → is_among v.numbers 0 ≡ true → SeatCovers m (now_in o.table log) v.passed v.seat
+
 -- a seat of the table
 pub record IsPart (o : Origin) (m : Memory) (seat : ℕ → Option View) (history : List Entry) (v : Sight) : Type 0 where
   pub at : seat v.number ≡ Some (view_of v)
   pub rests : HasResting v.seat
   pub headed : HeadedIn o m v.number v.load (log_of history) v.seat
   pub reads : ReadsIn o m (log_of history) v.seat
+  pub covers : CoversIn o m (log_of history) v
 
 -- a seat that has just been drawn by another one: nothing is by its number yet
 pub record IsNew (o : Origin) (seat : ℕ → Option View) (history : List Entry) (number : ℕ) (own : Own) : Type 0 where

@@ -49,11 +49,6 @@ pub record Ran (b : Sight) (c : Call) (v : Sight) (m : Machine) : Type 0 where
   pub leads : after_words machines (first_of b c) words ≡ m
   pub finds : Finds b.origin.table b.number (first_of b c) words (log_of b.history) (log_of went.window)
 
--- the call begins a work or a grace, or polls a grace
-abbrev pub IsBeginning : Machine → Type 0
-IsBeginning (machine.Begin b) = Unit {0}
-IsBeginning _ = ⊥
-
 -- the call begins a clean, a grow, a shrink, a grace or a sweep: it loads the counter first
 abbrev pub IsBeginCall : Call → Type 0
 IsBeginCall call.BeginClean = Unit {0}
@@ -68,10 +63,6 @@ abbrev pub IsPollCall : Call → Type 0
 IsPollCall call.PollWork = Unit {0}
 IsPollCall call.PollGrace = Unit {0}
 IsPollCall _ = ⊥
-
--- it is the poll of a work
-abbrev pub IsPollOfWork : Machine → Type 0
-IsPollOfWork m = (poll : Polling) × (m ≡ machine.Poll poll)
 
 -- it is the poll of a work of a table of this shape, and its clean has made few full passes
 pub record IsPolling (shape : Shape) (m : Machine) : Type 0 where

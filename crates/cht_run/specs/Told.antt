@@ -41,6 +41,7 @@ use Rattle.cht_run.specs.declared.sight.Entry.{Entry}
 use Rattle.cht_run.specs.declared.sight.Entry.TheVariants as entry
 use Rattle.cht_run.specs.declared.sight.Sight.{Sight}
 use Rattle.cht_run.specs.History.{log_of, draws_of, is_drawn, HasSeen, NoneBy}
+use Rattle.cht_run.specs.Covers.{MachineEnds}
 use Rattle.cht_run.specs.ReadKept.{MachineReads}
 use Rattle.cht_run.specs.Rule.{is_seat, CountsDraws}
 
@@ -118,8 +119,9 @@ pub record Told (o : Origin) (m : Machine) (s : Step) (v : Sight) (word : ℕ) (
   pub sees : HasSeen o.table w.history
   pub few : passed_of (got_of m word) ≤ o.table.shape.slots
   pub found_out : WorkFound o.table (log_of w.history) v.number (got_of m word)
-  -- a seat from which all others have come back has seen all
+  -- a seat from which all others have come back has seen all, and its walk to the end of a chain has passed all of it
   pub alone : v.kids ≡ [] → is_among v.numbers 0 ≡ true → between ≡ []
+  pub ended : v.kids ≡ [] → is_among v.numbers 0 ≡ true → MachineEnds o.table.shape.slots (now_in o.table (log_of (v.history ++ between))) m word
 
 -- the seat is about to make this step of this machine
 pub record IsAbout (v : Sight) (m : Machine) (s : Step) : Type 0 where

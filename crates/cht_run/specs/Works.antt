@@ -1,5 +1,5 @@
 -- How calls end that are to begin a work, and polls of a work.
-use Rattle.std.specs.Prelude.{◌≡◌, ◌≢◌, ℕ, ◌<◌, List, [], ◌∷◌, Option, None, Some}
+use Rattle.std.specs.Prelude.{◌≡◌, ◌≢◌, ℕ, List, [], ◌∷◌, Option, None, Some}
 use Rattle.table_shape.specs.declared.shape.Shape.{Shape}
 use Rattle.intern_log.specs.declared.event.Event.{Event}
 use Rattle.intern_log.specs.declared.event.What.{What}
@@ -18,7 +18,7 @@ use Rattle.call_machine.specs.declared.resize.Direction.TheVariants.{Grow, Shrin
 use Rattle.call_machine.specs.declared.work.Work.{Work as Working}
 use Rattle.call_machine.specs.declared.work.Work.TheVariants as work
 use Rattle.call_machine.specs.Poll.{works}
-use Rattle.call_machine.specs.Work.{begun_work, resumes}
+use Rattle.call_machine.specs.Work.{begun_work, resumes, IsSoundWork}
 use Rattle.cht_core.specs.declared.table.Table.{Table}
 use Rattle.cht_core.specs.Passes.{HasCleaned}
 use Rattle.cht_core.specs.Causes.{IsSpent, IsBusy, IsAtLevel, PollEnds}
@@ -34,17 +34,19 @@ use Rattle.cht_run.specs.declared.works.Polled.{Polled}
 use Rattle.cht_run.specs.declared.works.Polled.TheVariants as polled
 use Rattle.cht_run.specs.declared.works.Tried.{Tried}
 use Rattle.cht_run.specs.declared.works.Tried.TheVariants as tried
-use Rattle.cht_run.specs.declared.works.Work.{Work}
+use Rattle.cht_run.specs.declared.work.Work.{Work}
 use Rattle.cht_run.specs.Ended.{Ended, Only}
 use Rattle.cht_run.specs.Ends.{HasNothing}
-use Rattle.cht_run.specs.Graces.{IsUnspent, IsNext}
-use Rattle.cht_run.specs.Seats.{seen, work_of, grace_of}
+use Rattle.cht_run.specs.FullPasses.{RunsWithFew}
+use Rattle.cht_run.specs.Graces.{IsUnspent}
+use Rattle.cht_run.specs.Seats.{sight, seen, work_of, grace_of}
 
 -- the seat has this work unfinished
 pub record IsWorkOf (work : Work) (state : Working) (seat : Seat) : Type 0 where
   pub unfinished : work_of seat ≡ Some state
   pub no_grace : grace_of seat ≡ None
-  pub next : IsNext work.poll call.PollWork seat
+  pub is : work.state ≡ state
+  pub sound : IsSoundWork (sight seat).origin.table.shape state
 
 -- it has just begun it
 abbrev pub HasBegun : Table → Left → Work → Seat → Type 0
@@ -114,6 +116,8 @@ pub record Runs (shape : Shape) (from : Working) (did : List What) (to : Working
   pub fitting : AreFitting (works shape) (resumes from) words
   pub leads : after_words (works shape) (resumes from) words ≡ to
   pub made : events_of_words (works shape) (resumes from) words ≡ did
+  -- and a clean has made few full passes over one bucket
+  pub few : RunsWithFew shape from words
 
 -- a clean that is done has unlinked what was dead where its seat took the resize lock, and before
 abbrev pub HasFinished : Table → Working → Seat → Type 0

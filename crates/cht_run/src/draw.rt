@@ -50,7 +50,7 @@ impl Cht {
         ensures drawn { DrawnAs self.now M.sight M.call request.now seat.new along.now result }
         ensures slots { seat.new.me.1 ≡ seat.old.me.1 }
     {
-        let word = self.act(seat, Step::Draw);
+        let word = self.fetch_add(seat, Step::Draw, DRAWS, 1);
         if word >= u64::from(request.shape.seats) {
             return None;
         }

@@ -25,7 +25,7 @@ use marked_word::{is_redirected, new_level_of, section_word};
 
 /// At the bucket of a text with this hash, in the row of a level.
 #[inline(always)]
-fn turned_to(walk: Walk, hash: u32, level: u8) -> Walk
+pub(crate) fn turned_to(walk: Walk, hash: u32, level: u8) -> Walk
     requires level { level ≤ 20 }
     ensures value { result ≡ turned_to hash level walk }
 {

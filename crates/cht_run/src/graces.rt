@@ -1,25 +1,33 @@
 //! Graces: a seat raises the grace counter, and polls until each section that was open then has been closed.
-ghost use Rattle.std.specs.Prelude.{◌≡◌, Some};
-ghost use Rattle.atomic_step.specs.declared.answer.Answer.{Answer};
-ghost use Rattle.atomic_step.specs.declared.plan.Plan.TheVariants as plan;
+ghost use Rattle.std.specs.Prelude.{◌≡◌, ◌<◌, None, Some};
+ghost use Rattle.call_machine.specs.declared.begin.Left.TheVariants as left;
 ghost use Rattle.call_machine.specs.declared.call.Call.TheVariants as call;
 ghost use Rattle.call_machine.specs.declared.grace.Grace.{Grace as Gracing};
-ghost use Rattle.call_machine.specs.Machine.{plan_of};
+ghost use Rattle.call_machine.specs.declared.grace.GraceStage.TheVariants.{LoadSection};
+ghost use Rattle.call_machine.specs.Begin.{begun, goes_on, graced};
+ghost use Rattle.cht_run.specs.Beginnings.{begins_at, grace_ended, MayBegin, MayPollGrace};
 ghost use Rattle.cht_run.specs.Ended.{KeepsFields};
 ghost use Rattle.cht_run.specs.Ends.{HasNothing};
-ghost use Rattle.cht_run.specs.Graces.{IsNext, IsGraceOf, BeginsGrace, PollsGrace};
+ghost use Rattle.cht_run.specs.Graces.{IsGraceOf, BeginsGrace, PollsGrace};
 ghost use Rattle.cht_run.specs.Runs.{Ran};
 ghost use Rattle.cht_run.specs.Seats.{sight, grace_of, IsOf};
+ghost use Rattle.cht_run.specs.Underway.{IsAt, scanned_to};
 
-use crate::seat::Seat;
+use crate::layout::COUNTER;
+use crate::operations::Began;
+use crate::scan::scanned;
+use crate::seat::{Raw, Seat};
 use crate::table::Cht;
-use call_machine::{Answer, Call, Machine};
+use atomic_step::Step;
+use call_machine::Grace as State;
+use call_machine::begin::SPENT;
+use call_machine::grace::Gracing as Came;
 use std::marker::Brand;
 
 /// An unfinished grace of a seat. It is polled until it is over.
 pub struct Grace {
-    /// The machine of its next poll.
-    pub(crate) poll: Machine<'static>,
+    /// How far it has come.
+    pub(crate) state: State,
 }
 
 /// What comes of a call that is to begin a grace.
@@ -39,6 +47,74 @@ pub enum PolledGrace {
 }
 
 impl Cht {
+    /// Raises the counter: the grace begins.
+    #[inline(always)]
+    fn raise_first<M: Began>(&self, seat: &mut Raw) -> State
+        requires at { IsAt self.now M.sight M.call seat.old (begins_at M.sight (goes_on None)) }
+        ensures at { IsAt self.now M.sight M.call seat.new (begins_at M.sight (begun (left.Grace result))) }
+    {
+        let counter = self.fetch_add(seat, Step::RaiseCounter, COUNTER, 2);
+        State {
+            raised: counter + 2,
+            next: 0,
+        }
+    }
+
+    /// Begins a grace, from the first step to the last.
+    fn begin_grace_of<M: Began>(&self, seat: &mut Raw) -> BeganGrace
+        requires begins { MayBegin self.now M.sight M.call seat.old }
+        requires asks { M.call ≡ call.BeginGrace }
+        ensures at { IsAt self.now M.sight M.call seat.new (begins_at M.sight (grace_ended result)) }
+    {
+        let counter = self.load_counter::<M>(seat);
+        if counter >= SPENT {
+            return BeganGrace::Spent { counter };
+        }
+        let state = self.raise_first::<M>(seat);
+        BeganGrace::Begun(Grace { state })
+    }
+
+    /// Polls a grace, from the first step to the last: whether it is over.
+    fn poll_grace_of<M: Began>(&self, seat: &mut Raw, state: &mut State) -> bool
+        requires polls { MayPollGrace self.now M.sight M.call seat.old state.old }
+        requires inside { state.old.next < self.now.origin.table.shape.seats }
+        ensures at { IsAt self.now M.sight M.call seat.new (begins_at M.sight (graced LoadSection state.new (scanned_to result))) }
+    {
+        let number = state.next;
+        let index = self.layout.section(number);
+        let word = self.begin_load::<M>(seat, Step::LoadSection { number }, index);
+        let (then, came) = scanned(*state, self.origin.table.shape.seats, word);
+        *state = then;
+        match came {
+            Came::Goes => self.scan::<M, Brand>(seat, state),
+            Came::Waits => false,
+            Came::Over => true,
+        }
+    }
+
+    /// Begins a grace of a seat.
+    fn run_begin_grace(&self, seat: &mut Seat) -> BeganGrace
+        requires of { IsOf self.now seat.old }
+        requires nothing { HasNothing seat.old }
+        ensures of { IsOf self.now seat.new }
+        ensures fields { KeepsFields seat.old seat.new }
+        ensures ran { Ran (sight seat.old) call.BeginGrace (sight seat.new) (begins_at (sight seat.old) (grace_ended result)) }
+    {
+        self.begin_grace_of::<Brand>(&mut seat.raw)
+    }
+
+    /// Polls a grace that a seat has unfinished: whether it is over.
+    fn run_grace_poll(&self, seat: &mut Seat, state: &mut State) -> bool
+        requires of { IsOf self.now seat.old }
+        requires grace { grace_of seat.old ≡ Some state.old }
+        requires inside { state.old.next < self.now.origin.table.shape.seats }
+        ensures of { IsOf self.now seat.new }
+        ensures fields { KeepsFields seat.old seat.new }
+        ensures ran { Ran (sight seat.old) call.PollGrace (sight seat.new) (begins_at (sight seat.old) (graced LoadSection state.new (scanned_to result))) }
+    {
+        self.poll_grace_of::<Brand>(&mut seat.raw, state)
+    }
+
     /// Begins a grace.
     pub fn begin_grace(&self, seat: &mut Seat) -> BeganGrace
         requires of { IsOf self.now seat.old }
@@ -47,14 +123,7 @@ impl Cht {
         ensures fields { KeepsFields seat.old seat.new }
         ensures began { BeginsGrace self.now.origin.table seat.old seat.new result }
     {
-        let (own, answer) = self.run_begin(seat, Call::BeginGrace).finish();
-        match answer {
-            Answer::Begun => BeganGrace::Begun(Grace {
-                poll: self.next_poll(own, Call::PollGrace),
-            }),
-            Answer::Spent { counter } => BeganGrace::Spent { counter },
-            _ => unreachable!(),
-        }
+        self.run_begin_grace(seat)
     }
 
     /// Polls a grace that the seat has begun.
@@ -65,31 +134,14 @@ impl Cht {
         ensures fields { KeepsFields seat.old seat.new }
         ensures polled { (state : Gracing) → grace_of seat.old ≡ Some state → PollsGrace self.now.origin.table state seat.old seat.new result }
     {
-        let Grace { poll } = grace;
-        let (own, answer) = self.run_grace_poll(seat, poll).finish();
-        match answer {
-            Answer::Ready => PolledGrace::Ready,
-            Answer::PendingSeat { seat: number } => PolledGrace::Pending {
-                grace: Grace {
-                    poll: self.next_poll(own, Call::PollGrace),
-                },
-                seat: number,
-            },
-            _ => unreachable!(),
+        let Grace { mut state } = grace;
+        if self.run_grace_poll(seat, &mut state) {
+            return PolledGrace::Ready;
         }
-    }
-
-    /// Runs the poll of a grace that a seat has unfinished until it answers.
-    fn run_grace_poll(&self, seat: &mut Seat, mut machine: Machine<'static>) -> Machine<'static>
-        requires of { IsOf self.now seat.old }
-        requires grace { (state : Gracing) × (grace_of seat.old ≡ Some state) }
-        requires next { IsNext machine call.PollGrace seat.old }
-        ensures of { IsOf self.now seat.new }
-        ensures fields { KeepsFields seat.old seat.new }
-        ensures ran { Ran (sight seat.old) call.PollGrace (sight seat.new) result }
-        ensures answered { (answer : Answer) × (plan_of result ≡ plan.Answered answer) }
-    {
-        self.poll_run::<Brand>(&mut seat.raw, &mut machine);
-        machine
+        let number = state.next;
+        PolledGrace::Pending {
+            grace: Grace { state },
+            seat: number,
+        }
     }
 }

@@ -12,6 +12,7 @@ ghost use Rattle.cht_run.specs.Begins.{own_at, MayCall};
 ghost use Rattle.cht_run.specs.Calls.{At};
 ghost use Rattle.cht_run.specs.Ended.{Ended, KeepsWork};
 ghost use Rattle.cht_run.specs.History.{log_of};
+ghost use Rattle.cht_run.specs.PassedChains.{WalkPasses, InternPasses, InternWeakPasses};
 ghost use Rattle.cht_run.specs.Seats.{IsOf, Sits};
 ghost use Rattle.cht_run.specs.Walked.{IsInternAnswer, Walked};
 ghost use Rattle.cht_run.specs.Interns.{Interns, WhyInterns, InternHolds, InternsWeak, WhyInternsWeak, InternWeakHolds};
@@ -53,7 +54,7 @@ pub enum TryInternWeak {
     TooLong,
     /// The text's entry was live at some moment of the call.
     Found(Handle),
-    /// Another seat was first: it did something to the text's entry, or changed the head of a bucket of the text.
+    /// Another seat was first: it changed the head of a bucket of the text.
     Again,
     /// The bucket was locked at some moment of the call.
     Locked,
@@ -130,6 +131,7 @@ impl Cht {
         ensures only { IsInternAnswer self.now.origin.table.kind result }
         ensures walked { Walked self.now goal.Intern text.now seat.old seat.new result }
         ensures few { seat.new.passed ≤ self.now.origin.table.shape.slots }
+        ensures exact { WalkPasses self.now.origin.table seat.old seat.new.passed text.now result }
     {
         let request = self.seek(seat, Goal::Intern, text);
         let along = Along {
@@ -161,6 +163,7 @@ impl Cht {
         ensures works { KeepsWork seat.old seat.new }
         ensures too_long { (result ≡ TryIntern.TooLong) ↔ (texts.is_too_long self.now.origin.table.shape text.now ≡ true) }
         ensures few { seat.new.passed ≤ self.now.origin.table.shape.slots }
+        ensures exact { InternPasses self.now.origin.table seat.old seat.new.passed text.now result }
     {
         if is_too_long(self, text) {
             seat.passed = 0;
@@ -178,7 +181,8 @@ impl Cht {
 
     /// Interns a text in a weak table: finds its entry, or makes one. It tries once, and waits for nobody.
     ///
-    /// The answers come as those of `try_intern`, with `Found` in place of `Taken`.
+    /// The answers come as those of `try_intern`, with `Found` in place of `Taken`. No count is exchanged, so that
+    /// `Again` comes only where another seat changed the head of a bucket of the text.
     pub fn try_intern_weak(&self, seat: &mut Seat, text: &[u8]) -> TryInternWeak
         requires of { IsOf self.now seat.old }
         requires weak { self.now.origin.table.kind ≡ Weak }
@@ -188,6 +192,7 @@ impl Cht {
         ensures works { KeepsWork seat.old seat.new }
         ensures too_long { (result ≡ TryInternWeak.TooLong) ↔ (texts.is_too_long self.now.origin.table.shape text.now ≡ true) }
         ensures few { seat.new.passed ≤ self.now.origin.table.shape.slots }
+        ensures exact { InternWeakPasses self.now.origin.table seat.old seat.new.passed text.now result }
     {
         if is_too_long(self, text) {
             seat.passed = 0;

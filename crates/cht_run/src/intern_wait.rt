@@ -15,6 +15,7 @@ ghost use Rattle.cht_run.specs.Ends.{HasNothing};
 ghost use Rattle.cht_run.specs.History.{log_of};
 ghost use Rattle.cht_run.specs.Holds.{InternedGives};
 ghost use Rattle.cht_run.specs.InternWaits.{decided, filled, tried, InternsWaiting, WhyInternsWaiting, InternedHolds, InternsWeakWaiting, WhyInternsWeakWaiting, InternedWeakHolds, IsWaitAnswer};
+ghost use Rattle.cht_run.specs.PassedChains.{WalkPasses, InternedPasses, InternedWeakPasses};
 ghost use Rattle.cht_run.specs.Seats.{IsOf, Sits};
 ghost use Rattle.cht_run.specs.Walked.{Walked};
 ghost use Rattle.cht_run.specs.Walks.{IsWalk};
@@ -216,6 +217,7 @@ impl Cht {
         ensures only { IsWaitAnswer self.now.origin.table.kind result }
         ensures walked { Walked self.now goal.InternWait text.now seat.old seat.new result }
         ensures few { seat.new.passed ≤ self.now.origin.table.shape.slots }
+        ensures exact { WalkPasses self.now.origin.table seat.old seat.new.passed text.now result }
     {
         let request = self.seek(seat, Goal::InternWait, text);
         let along = Along {
@@ -249,6 +251,7 @@ impl Cht {
         ensures works { KeepsWork seat.old seat.new }
         ensures too_long { (result ≡ Interned.TooLong) ↔ (texts.is_too_long self.now.origin.table.shape text.now ≡ true) }
         ensures few { seat.new.passed ≤ self.now.origin.table.shape.slots }
+        ensures exact { InternedPasses self.now.origin.table seat.old seat.new.passed text.now result }
     {
         if is_too_long(self, text) {
             seat.passed = 0;
@@ -275,6 +278,7 @@ impl Cht {
         ensures works { KeepsWork seat.old seat.new }
         ensures too_long { (result ≡ InternedWeak.TooLong) ↔ (texts.is_too_long self.now.origin.table.shape text.now ≡ true) }
         ensures few { seat.new.passed ≤ self.now.origin.table.shape.slots }
+        ensures exact { InternedWeakPasses self.now.origin.table seat.old seat.new.passed text.now result }
     {
         if is_too_long(self, text) {
             seat.passed = 0;

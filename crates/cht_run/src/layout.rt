@@ -5,14 +5,17 @@ ghost use Rattle.table_shape.specs.Shape as shapes;
 ghost use Rattle.table_shape.specs.Shape.{IsSound};
 ghost use Rattle.table_shape.specs.Place as places;
 ghost use Rattle.table_shape.specs.Place.{IsInside, index_of};
+ghost use Rattle.atomic_step.specs.Step.{edge_place};
 ghost use Rattle.cht_run.specs.Layouts.{StandsAt};
 
-use atomic_step::{Place, Shape};
+use atomic_step::{Edge, Place, Shape};
 
 /// The indices of the words that each table has.
 pub(crate) const DRAWS: u32 = 0;
 
 pub(crate) const COUNTER: u32 = 1;
+
+pub(crate) const RESIZE_LOCK: u32 = 2;
 
 pub(crate) const LEVEL: u32 = 3;
 
@@ -155,6 +158,17 @@ impl Layout {
         } else {
             let below = self.rows_from.wrapping_sub(self.least_row);
             below.wrapping_add(row_len(row)).wrapping_add(bucket)
+        }
+    }
+
+    /// The index of the word of an edge.
+    #[inline(always)]
+    pub(crate) fn edge(&self, edge: Edge) -> u32
+        ensures value { StandsAt self.now.shape (edge_place edge) result }
+    {
+        match edge {
+            Edge::Head { row, bucket } => self.head(row, bucket),
+            Edge::Link { slot } => self.link(slot),
         }
     }
 

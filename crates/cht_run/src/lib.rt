@@ -2,13 +2,14 @@
 #![tactic(auto)]
 
 pub mod change;
+mod clean;
 mod close;
 mod draw;
-mod drive;
 mod ends;
 mod find;
 pub mod front;
 pub mod graces;
+mod heads;
 pub mod hold_laws;
 mod insert;
 pub mod intern;
@@ -20,20 +21,27 @@ pub mod lookup;
 mod make;
 mod node;
 mod operations;
+mod pair;
+mod pass;
 mod polls;
 pub mod read;
 pub mod rehash;
+mod resize;
 pub mod retry;
+mod scan;
 pub mod seat;
 pub mod shared;
 pub mod sight;
 pub mod statistics;
+mod sweep_find;
 pub mod sweeps;
 pub mod table;
 pub mod tally;
 #[cfg(test)]
 mod tests;
+mod unzip;
 pub mod waits;
+pub mod work;
 pub mod works;
 
 pub use change::{TryDrop, TryKill, TryPermanent};
@@ -51,4 +59,5 @@ pub use statistics::Statistics;
 pub use sweeps::Swept;
 pub use table::Cht;
 pub use waits::{Cleaned, Grown, Shrunk};
-pub use works::{BeganClean, BeganGrow, BeganShrink, Polled, Work};
+pub use work::Work;
+pub use works::{BeganClean, BeganGrow, BeganShrink, Polled};

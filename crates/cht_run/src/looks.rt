@@ -33,7 +33,9 @@ impl Seat {
     }
 
     /// How many nodes its last look-up or intern has passed since it last began to find the head of its bucket: at
-    /// most as many as there are slots, and none where the text is longer than a slot has room for.
+    /// most as many as there are slots, and none where the text is longer than a slot has room for. Where the seat was
+    /// alone and had no unfinished work, and the call missed, made an entry or found no slot, they are exactly the
+    /// nodes of the bucket's chain as the call began.
     pub fn passed(&self) -> u32
         ensures value { result ≡ self.now.passed }
     {

@@ -15,6 +15,7 @@ ghost use Rattle.cht_run.specs.Begins.{own_at, MayCall};
 ghost use Rattle.cht_run.specs.Calls.{At};
 ghost use Rattle.cht_run.specs.Ended.{Ended, KeepsWork};
 ghost use Rattle.cht_run.specs.History.{log_of};
+ghost use Rattle.cht_run.specs.PassedChains.{WalkPasses, LookupPasses, FindPasses};
 ghost use Rattle.cht_run.specs.Seats.{IsOf, Sits};
 ghost use Rattle.cht_run.specs.Walked.{asked_for, IsLookupAnswer, Walked};
 ghost use Rattle.cht_run.specs.Walks.{IsWalk};
@@ -129,6 +130,7 @@ impl Cht {
         ensures only { IsLookupAnswer self.now.origin.table.kind result }
         ensures walked { Walked self.now goal.Lookup text.now seat.old seat.new result }
         ensures few { seat.new.passed ≤ self.now.origin.table.shape.slots }
+        ensures exact { WalkPasses self.now.origin.table seat.old seat.new.passed text.now result }
     {
         let request = self.seek(seat, Goal::Lookup, text);
         let along = Along {
@@ -155,6 +157,7 @@ impl Cht {
         ensures holds { LookupHolds seat.new result }
         ensures works { KeepsWork seat.old seat.new }
         ensures few { seat.new.passed ≤ self.now.origin.table.shape.slots }
+        ensures exact { LookupPasses self.now.origin.table seat.old seat.new.passed text.now result }
     {
         if is_too_long(self, text) {
             self.look_too_long(seat, text);
@@ -180,6 +183,7 @@ impl Cht {
         ensures holds { FindHolds seat.new result }
         ensures works { KeepsWork seat.old seat.new }
         ensures few { seat.new.passed ≤ self.now.origin.table.shape.slots }
+        ensures exact { FindPasses self.now.origin.table seat.old seat.new.passed text.now result }
     {
         if is_too_long(self, text) {
             self.look_too_long(seat, text);

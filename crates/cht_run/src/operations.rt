@@ -135,6 +135,23 @@ impl Cht {
             .compare_exchange::<Further>(seat, at as usize, old, new)
     }
 
+    /// Adds to a word as the next step of the seat's call, and answers the word that it found.
+    #[inline(always)]
+    pub(crate) fn fetch_add(&self, seat: &mut Raw, step: Step, at: u32, value: u64) -> u64
+        requires sits { Sits self.now seat.old }
+        requires next { next_in seat.old.me.0.seat ≡ Some step }
+        requires sound { SoundIn self.now.origin seat.old.me.0.number seat.old.me.0.seat }
+        requires adds { Does self.now.layout.shape step at (deed.Add value) }
+        ensures sits { Sits self.now seat.new }
+        ensures told { GoesOn seat.old.me.0 result seat.new.me.0 }
+        ensures fits { FitsIn seat.old.me.0.seat result }
+    {
+        let _step = step;
+        self.table
+            .shared
+            .fetch_add::<Further>(seat, at as usize, value)
+    }
+
     /// Makes the first step of a call, whatever it is, and answers the word that it found.
     pub(crate) fn begin<M: Began>(&self, seat: &mut Raw, step: Step) -> u64
         requires sits { Sits self.now seat.old }
@@ -152,26 +169,6 @@ impl Cht {
             Deed::Store(value) | Deed::Swap(value) => shared.swap::<First<M>>(seat, at, value),
             Deed::Add(value) => shared.fetch_add::<First<M>>(seat, at, value),
             Deed::Exchange { old, new } => shared.compare_exchange::<First<M>>(seat, at, old, new),
-        }
-    }
-
-    /// Makes the next step of the seat's call, whatever it is, and answers the word that it found.
-    pub(crate) fn act(&self, seat: &mut Raw, step: Step) -> u64
-        requires sits { Sits self.now seat.old }
-        requires next { next_in seat.old.me.0.seat ≡ Some step }
-        requires sound { SoundIn self.now.origin seat.old.me.0.number seat.old.me.0.seat }
-        ensures sits { Sits self.now seat.new }
-        ensures told { GoesOn seat.old.me.0 result seat.new.me.0 }
-        ensures fits { FitsIn seat.old.me.0.seat result }
-    {
-        let access = step.access();
-        let at = self.layout.index(access.place) as usize;
-        let shared = &self.table.shared;
-        match access.deed {
-            Deed::Load => shared.load::<Further>(seat, at),
-            Deed::Store(value) | Deed::Swap(value) => shared.swap::<Further>(seat, at, value),
-            Deed::Add(value) => shared.fetch_add::<Further>(seat, at, value),
-            Deed::Exchange { old, new } => shared.compare_exchange::<Further>(seat, at, old, new),
         }
     }
 }

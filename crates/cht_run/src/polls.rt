@@ -1,68 +1,90 @@
 //! Polls of a work.
-ghost use Rattle.std.specs.Prelude.{◌≡◌, List, Some};
-ghost use Rattle.atomic_step.specs.declared.answer.Answer.{Answer};
-ghost use Rattle.atomic_step.specs.declared.plan.Plan.TheVariants as plan;
-ghost use Rattle.atomic_step.specs.declared.step.Step.{Step};
+ghost use Rattle.std.specs.Prelude.{◌≡◌, ◌↔◌, IsTrue, Some};
 ghost use Rattle.call_machine.specs.declared.call.Call.TheVariants as call;
 ghost use Rattle.call_machine.specs.declared.work.Work.{Work as Working};
-ghost use Rattle.call_machine.specs.Machine.{plan_of};
+ghost use Rattle.call_machine.specs.Work.{IsSoundWork};
 ghost use Rattle.cht_run.specs.Ended.{KeepsFields};
-ghost use Rattle.cht_run.specs.Graces.{IsNext};
+ghost use Rattle.cht_run.specs.Pending.{MayPend, IsHeld};
+ghost use Rattle.cht_run.specs.Polls.{MayPoll, PendsOn};
 ghost use Rattle.cht_run.specs.Runs.{Ran};
-ghost use Rattle.cht_run.specs.Seats.{sight, work_of, grace_of, IsOf};
+ghost use Rattle.cht_run.specs.Seats.{sight, work_of, IsOf};
+ghost use Rattle.cht_run.specs.Underway.{IsAt, polled, answer_at};
 ghost use Rattle.cht_run.specs.Works.{IsWorkOf, PollsWork};
 
-use crate::seat::Seat;
+use crate::operations::Began;
+use crate::seat::{Raw, Seat};
 use crate::table::Cht;
-use crate::works::{Polled, Work};
-use atomic_step::Plan;
-use call_machine::{Answer, Call, Machine};
+use crate::work::Work;
+use crate::works::Polled;
+use call_machine::clean::CleanStage;
+use call_machine::grace::GraceStage;
+use call_machine::resize::ResizeStage;
+use call_machine::{Work as State, Worked};
 use std::marker::Brand;
 
+/// How the poll of a work ends.
+#[derive(Clone, Copy)]
+pub enum PollEnd {
+    /// The work is done.
+    Done(Worked),
+    /// It waits for the section of this seat.
+    PendingSeat { seat: u32 },
+    /// It waits for this bucket.
+    PendingBucket { row: u8, bucket: u32 },
+}
+
+/// Whether a work is pending before a grace: it may begin none any more, and waits for good.
+fn is_held(state: &State) -> bool
+    ensures exact { IsTrue result ↔ IsHeld state.now }
+{
+    match state {
+        State::Clean(clean) => matches!(
+            clean.stage,
+            CleanStage::Grace {
+                stage: GraceStage::RaiseCounter,
+                ..
+            }
+        ),
+        State::Resize(resize) => matches!(
+            resize.stage,
+            ResizeStage::Grace {
+                stage: GraceStage::RaiseCounter,
+                ..
+            }
+        ),
+    }
+}
+
 impl Cht {
-    /// Runs the poll of a work that a seat has unfinished until it answers.
-    fn run_work_poll(&self, seat: &mut Seat, mut machine: Machine<'static>) -> Machine<'static>
-        requires of { IsOf self.now seat.old }
-        requires work { (state : Working) × (work_of seat.old ≡ Some state) }
-        requires next { IsNext machine call.PollWork seat.old }
-        requires plan { (step : Step) × (plan_of machine ≡ plan.Step step) }
-        ensures of { IsOf self.now seat.new }
-        ensures fields { KeepsFields seat.old seat.new }
-        ensures ran { Ran (sight seat.old) call.PollWork (sight seat.new) result }
-        ensures answered { (answer : Answer) × (plan_of result ≡ plan.Answered answer) }
+    /// Makes the first step of the poll of a work, and goes on with it until the poll ends.
+    fn poll_on<M: Began>(&self, seat: &mut Raw, state: &mut State) -> PollEnd
+        requires polls { MayPoll self.now M.sight M.call seat.old state.old }
+        requires pends { MayPend state.old }
+        requires goes { ¬ (IsHeld state.old) }
+        ensures at { IsAt self.now M.sight M.call seat.new (polled M.sight (state.new, Some (answer_at result))) }
+        ensures pends { PendsOn state.new result }
     {
-        self.poll_work_run::<Brand>(&mut seat.raw, &mut machine);
-        machine
+        let step = state.step();
+        let word = self.begin::<M>(seat, step);
+        match state {
+            State::Clean(clean) => self.poll_clean::<M>(seat, clean, word),
+            State::Resize(resize) => self.poll_resize::<M>(seat, resize, word),
+        }
     }
 
-    /// Polls a work whose next poll makes a step.
-    fn poll_on(&self, seat: &mut Seat, work: Work) -> Polled
+    /// Polls a work that a seat has unfinished and that may go on.
+    fn run_poll(&self, seat: &mut Seat, state: &mut State) -> PollEnd
         requires of { IsOf self.now seat.old }
-        requires work { (state : Working) × IsWorkOf work state seat.old }
-        requires plan { (step : Step) × (plan_of work.poll ≡ plan.Step step) }
+        requires work { work_of seat.old ≡ Some state.old }
+        requires sound { IsSoundWork self.now.origin.table.shape state.old }
+        requires pends { MayPend state.old }
+        requires goes { ¬ (IsHeld state.old) }
         ensures of { IsOf self.now seat.new }
         ensures fields { KeepsFields seat.old seat.new }
-        ensures polled { (state : Working) → work_of seat.old ≡ Some state → PollsWork self.now.origin.table state seat.old seat.new result }
+        ensures ran { Ran (sight seat.old) call.PollWork (sight seat.new) (polled (sight seat.old) (state.new, Some (answer_at result))) }
+        ensures pends { PendsOn state.new result }
     {
-        let Work { poll } = work;
-        let (own, answer) = self.run_work_poll(seat, poll).finish();
-        match answer {
-            Answer::Done(worked) => Polled::Done(worked),
-            Answer::PendingSeat { seat: number } => Polled::PendingSeat {
-                work: Work {
-                    poll: self.next_poll(own, Call::PollWork),
-                },
-                seat: number,
-            },
-            Answer::PendingBucket { row, bucket } => Polled::PendingBucket {
-                work: Work {
-                    poll: self.next_poll(own, Call::PollWork),
-                },
-                row,
-                bucket,
-            },
-            _ => unreachable!(),
-        }
+        self.poll_on::<Brand>(&mut seat.raw, state)
     }
 
     /// Polls a work that the seat has begun. A work that may begin no further grace waits for good.
@@ -73,9 +95,21 @@ impl Cht {
         ensures fields { KeepsFields seat.old seat.new }
         ensures polled { (state : Working) → work_of seat.old ≡ Some state → PollsWork self.now.origin.table state seat.old seat.new result }
     {
-        match work.poll.plan() {
-            Plan::Step(_) => self.poll_on(seat, work),
-            Plan::Answered(_) => Polled::PendingSeat { work, seat: 0 },
+        if is_held(&work.state) {
+            return Polled::PendingSeat { work, seat: 0 };
+        }
+        let Work { mut state } = work;
+        match self.run_poll(seat, &mut state) {
+            PollEnd::Done(worked) => Polled::Done(worked),
+            PollEnd::PendingSeat { seat: number } => Polled::PendingSeat {
+                work: Work { state },
+                seat: number,
+            },
+            PollEnd::PendingBucket { row, bucket } => Polled::PendingBucket {
+                work: Work { state },
+                row,
+                bucket,
+            },
         }
     }
 }

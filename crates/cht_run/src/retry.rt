@@ -4,6 +4,7 @@ ghost use Rattle.intern_log.specs.declared.event.Kind.TheVariants.{Counted};
 ghost use Rattle.intern_log.specs.declared.event.What.TheVariants as what;
 ghost use Rattle.cht_core.specs.Begins.{IsHeld};
 ghost use Rattle.cht_run.specs.Ended.{Ended, KeepsFields, KeepsWork, Only};
+ghost use Rattle.cht_run.specs.PassedChains.{LookupWaitingPasses};
 ghost use Rattle.cht_run.specs.Retries.{LooksUpWaiting, WhyLooksUpWaiting, LookupWaitingHolds, WhyReleases, WhyStays};
 ghost use Rattle.cht_run.specs.Seats.{seen, numbers, IsOf};
 
@@ -47,6 +48,7 @@ impl Cht {
         ensures holds { LookupWaitingHolds seat.new result }
         ensures works { KeepsWork seat.old seat.new }
         ensures few { seat.new.passed ≤ self.now.origin.table.shape.slots }
+        ensures exact { LookupWaitingPasses self.now.origin.table seat.old seat.new.passed text.now result }
     {
         let backoff = Backoff::new();
         for _ in rt.forever() {

@@ -10,7 +10,8 @@ ghost use Rattle.cht_run.specs.Works.{IsWorkOf, BeginsWork};
 
 use crate::seat::Seat;
 use crate::table::Cht;
-use crate::works::{Polled, Tried, Work};
+use crate::work::Work;
+use crate::works::{Polled, Tried};
 use call_machine::Worked;
 use call_machine::begin::Task;
 use crossbeam_utils::Backoff;

@@ -14,7 +14,7 @@ use atomic_step::{Answer, Edge, Worked};
 
 impl ResizeAlong {
     /// What goes along with a resize that begins at a level.
-    pub fn begun(level: u8) -> ResizeAlong
+    pub(super) fn begun(level: u8) -> ResizeAlong
         ensures value { result ≡ resizes.begun_resize level }
     {
         ResizeAlong {
@@ -60,7 +60,7 @@ impl ResizeAlong {
     }
 
     /// A grace comes next, if one may begin.
-    pub fn raises(self, after: AfterGrace) -> Went
+    pub(super) fn raises(self, after: AfterGrace) -> Went
         ensures value { result ≡ resizes.raises self after }
     {
         let stage = ResizeStage::Grace {
@@ -90,7 +90,7 @@ impl ResizeAlong {
     }
 
     /// What came of a step that locks a bucket.
-    pub fn locks_on(self, direction: Direction, side: Side, came: Locking) -> Went
+    pub(super) fn locks_on(self, direction: Direction, side: Side, came: Locking) -> Went
         requires sound { (shape : Shape) × IsSound shape × IsSoundResizing shape direction self }
         ensures value { result ≡ resizes.locks_on direction self side came }
     {
@@ -110,7 +110,7 @@ impl ResizeAlong {
     }
 
     /// A head of the old row is redirected.
-    pub fn redirected(self, direction: Direction, side: Side) -> Went
+    pub(super) fn redirected(self, direction: Direction, side: Side) -> Went
         ensures value { result ≡ resizes.redirected direction self side }
     {
         match (direction, side) {
@@ -144,7 +144,7 @@ impl ResizeAlong {
     }
 
     /// A bucket of the new row is unlocked.
-    pub fn unlocked(self, direction: Direction, side: Side) -> Went
+    pub(super) fn unlocked(self, direction: Direction, side: Side) -> Went
         requires sound { (shape : Shape) × IsSound shape × IsSoundResizing shape direction self }
         ensures value { result ≡ resizes.unlocked direction self side }
     {
@@ -155,7 +155,7 @@ impl ResizeAlong {
     }
 
     /// One more node of the pair was looked at.
-    pub fn looks_at(self) -> ResizeAlong
+    pub(super) fn looks_at(self) -> ResizeAlong
         ensures value { result ≡ resizes.looks_at self }
     {
         ResizeAlong {
@@ -176,7 +176,7 @@ impl ResizeAlong {
     }
 
     /// After a step of a grace, with one more that was begun where the counter is raised.
-    pub fn with_grace(self, grace: Grace, stage: GraceStage) -> ResizeAlong
+    pub(super) fn with_grace(self, grace: Grace, stage: GraceStage) -> ResizeAlong
         ensures value { result ≡ record self { grace = grace; graces = graces.counts_grace stage self.graces } }
     {
         ResizeAlong {
@@ -187,7 +187,7 @@ impl ResizeAlong {
     }
 
     /// What came of a step of a grace.
-    pub fn graces_on(self, after: AfterGrace, came: Gracing) -> Went
+    pub(super) fn graces_on(self, after: AfterGrace, came: Gracing) -> Went
         ensures value { result ≡ resizes.graces_on self after came }
     {
         let stage = ResizeStage::Grace {

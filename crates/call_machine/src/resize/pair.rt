@@ -43,7 +43,7 @@ impl Direction {
     }
 
     /// What comes once a head of the new row is written.
-    pub fn after_put(self, chains: Chains, side: Side) -> ResizeStage
+    pub(super) fn after_put(self, chains: Chains, side: Side) -> ResizeStage
         ensures value { result ≡ resizes.after_put self chains side }
     {
         match (self, side) {

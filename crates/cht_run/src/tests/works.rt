@@ -11,7 +11,8 @@ use crate::read::TextOf;
 use crate::retry::{Lookup, Released};
 use crate::sweeps::Swept;
 use crate::waits::{Cleaned, Grown, Shrunk};
-use crate::works::{BeganClean, BeganGrow, BeganShrink, Polled, Work};
+use crate::work::Work;
+use crate::works::{BeganClean, BeganGrow, BeganShrink, Polled};
 use call_machine::Worked;
 use std::sync::Wait;
 

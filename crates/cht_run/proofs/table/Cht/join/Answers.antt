@@ -22,7 +22,7 @@ join_seat-requires c =
       c.requires.of.1.table,
       w.bare,
       omega (arith, wide),
-      joins t.table.shared.key.origin v.raw.id v.raw.me.0 w.raw.id w.raw.me.0 v.seat w.seat w.rests c.requires.nothing.work,
+      joins t.table.shared.key.origin v.raw.id v.raw.me.0 w.raw.id w.raw.me.0 v.seat w.seat v.rests w.rests c.requires.nothing.work,
     )
 
 pub load-requires : goal.load-requires

@@ -2,6 +2,8 @@ use Rattle.std.proofs.Common.{◌≡◌, refl, subst}
 use Rattle.cht_run.specs.declared.lookup.TryLookup.{TryLookup}
 use Rattle.cht_run.specs.Answers.{LooksUp, WhyLooksUp, LookupHolds}
 use Rattle.cht_run.specs.Ended.{Ended}
+use Rattle.cht_run.specs.PassedChains.{LookupPasses}
+use Rattle.cht_run.proofs.WalkPasses.{tries_pass}
 use Rattle.cht_run.proofs.Retries.{works_both, not_tried, hits, misses, looks_on}
 use Rattle.cht_run.proofs.table.Cht.lookup.Goals as goal
 
@@ -36,6 +38,7 @@ returns-in-Hit g c =
       holds = subst (LookupHolds new) c.in-Hit.is c.try_lookup.ensures.holds;
       works = works_both c.args.seat.now mid new c.loop.invariant.works c.try_lookup.ensures.works;
       few = c.try_lookup.ensures.few;
+      exact = tt;
     }
 
 pub returns-in-Miss : goal.returns-in-Miss
@@ -50,4 +53,5 @@ returns-in-Miss g c =
       holds = tt;
       works = works_both c.args.seat.now mid new c.loop.invariant.works c.try_lookup.ensures.works;
       few = c.try_lookup.ensures.few;
+      exact = λ fits. tries_pass t c.args.seat.now mid new.passed text c.loop.invariant.before c.loop.invariant.works (subst (LookupPasses t mid new.passed text) c.in-Miss.is c.try_lookup.ensures.exact fits);
     }

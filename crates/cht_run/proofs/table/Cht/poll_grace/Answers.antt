@@ -1,25 +1,26 @@
-use Rattle.std.proofs.Common.{◌≡◌, sym, ap, subst, ◌∙◌}
-use Rattle.atomic_step.specs.declared.plan.Plan.TheVariants as plan
-use Rattle.cht_run.proofs.GraceCalls.{may_poll_on, grace_pending, grace_over, polls_no_other, sound_left}
+use Rattle.std.proofs.Common.{refl, subst}
+use Rattle.atomic_step.specs.declared.answer.Answer.TheVariants as answer
+use Rattle.call_machine.specs.declared.begin.Left.TheVariants as left
+use Rattle.call_machine.specs.declared.call.Call.TheVariants as call
+use Rattle.call_machine.specs.declared.grace.GraceStage.TheVariants.{LoadSection}
+use Rattle.call_machine.specs.Begin.{graced}
+use Rattle.cht_run.specs.Beginnings.{begins_at}
+use Rattle.cht_run.specs.Runs.{Ran}
+use Rattle.cht_run.specs.Seats.{sight}
+use Rattle.cht_run.specs.Underway.{scanned_to}
+use Rattle.cht_run.proofs.GraceCalls.{grace_over, grace_pending}
 use Rattle.cht_run.proofs.table.Cht.poll_grace.Goals as goal
 
-pub next_poll-requires-clause-may : goal.next_poll-requires-clause-may
-next_poll-requires-clause-may c =
-    may_poll_on c.args.self.now c.args.seat.now c.run_grace_poll.new.seat c.run_grace_poll.result c.finish-own.result.0 c.requires.of c.run_grace_poll.ensures.ran c.finish-own.ensures.own c.args.grace c.requires.grace c.in-PendingSeat.number
-    (c.finish-own.ensures.answer ∙ ap plan.Answered c.in-PendingSeat.is)
-    (sound_left c.args.self.now c.args.seat.now c.run_grace_poll.new.seat _ c.run_grace_poll.result c.requires.of c.run_grace_poll.ensures.ran c.finish-own.result.0 c.finish-own.ensures.sound)
+pub returns-then-run_grace_poll-clause-polled : goal.returns-then-run_grace_poll-clause-polled
+returns-then-run_grace_poll-clause-polled c = λ state is.
+    grace_over c.args.self.now c.args.seat.now c.run_grace_poll.new.seat c.requires.of c.args.grace c.requires.grace answer.Ready left.Nothing
+    (subst (λ v. Ran (sight c.args.seat.now) call.PollGrace (sight c.run_grace_poll.new.seat) (begins_at (sight c.args.seat.now) (graced LoadSection c.run_grace_poll.new.state (scanned_to v)))) c.if-run_grace_poll.true
+    c.run_grace_poll.ensures.ran)
+    state refl is
 
-pub unreachable-requires : goal.unreachable-requires
-unreachable-requires c =
-    polls_no_other c.args.self.now c.args.seat.now c.run_grace_poll.new.seat c.run_grace_poll.result c.finish-own.result.0 c.requires.of c.run_grace_poll.ensures.ran c.finish-own.ensures.own c.args.grace c.requires.grace
-    c.finish-own.result.1 c.finish-own.ensures.answer c.in_default.not-Ready c.in_default.not-PendingSeat
-
-pub returns-in-Ready-clause-polled : goal.returns-in-Ready-clause-polled
-returns-in-Ready-clause-polled c = λ state is.
-    grace_over c.args.self.now c.args.seat.now c.run_grace_poll.new.seat c.run_grace_poll.result c.finish-own.result.0 c.requires.of c.run_grace_poll.ensures.ran c.finish-own.ensures.own c.args.grace c.requires.grace state
-    (c.finish-own.ensures.answer ∙ ap plan.Answered c.in-Ready.is) is
-
-pub returns-in-PendingSeat-clause-polled : goal.returns-in-PendingSeat-clause-polled
-returns-in-PendingSeat-clause-polled c = λ state is.
-    grace_pending c.args.self.now c.args.seat.now c.run_grace_poll.new.seat c.run_grace_poll.result c.finish-own.result.0 c.requires.of c.run_grace_poll.ensures.ran c.finish-own.ensures.own c.args.grace c.requires.grace c.in-PendingSeat.number
-    c.next_poll.result state (c.finish-own.ensures.answer ∙ ap plan.Answered c.in-PendingSeat.is) c.next_poll.ensures.value c.next_poll.ensures.sound is
+pub returns-clause-polled : goal.returns-clause-polled
+returns-clause-polled c = λ state is.
+    grace_pending c.args.self.now c.args.seat.now c.run_grace_poll.new.seat c.requires.of c.args.grace c.requires.grace (answer.PendingSeat c.run_grace_poll.new.state.next) (left.Grace c.run_grace_poll.new.state)
+    (subst (λ v. Ran (sight c.args.seat.now) call.PollGrace (sight c.run_grace_poll.new.seat) (begins_at (sight c.args.seat.now) (graced LoadSection c.run_grace_poll.new.state (scanned_to v)))) c.if-run_grace_poll.false
+    c.run_grace_poll.ensures.ran)
+    c.run_grace_poll.new.state.next _ state refl refl is

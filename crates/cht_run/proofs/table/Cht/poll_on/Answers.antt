@@ -1,39 +1,72 @@
-use Rattle.std.proofs.Common.{◌≡◌, refl, ap, ◌∙◌}
-use Rattle.atomic_step.specs.declared.answer.Answer.TheVariants as answer
+use Rattle.std.proofs.Common.{◌≡◌, sym, ap, subst, ◌∙◌}
 use Rattle.atomic_step.specs.declared.plan.Plan.TheVariants as plan
-use Rattle.cht_run.proofs.GraceCalls.{sound_left}
-use Rattle.cht_run.proofs.PollCalls.{poll_done, may_go_on, poll_waits, polls_nothing_else}
+use Rattle.atomic_step.specs.declared.step.Step.{Step}
+use Rattle.atomic_step.specs.SoundStep.{IsSoundStep, CanBeFound}
+use Rattle.call_machine.specs.declared.call.Call.{Call}
+use Rattle.call_machine.specs.declared.work.Work.{Work}
+use Rattle.call_machine.specs.Machine.{plan_of}
+use Rattle.call_machine.specs.Work.{work_row, resumes}
+use Rattle.cht_run.specs.Begins.{first_of, GoesFirst}
+use Rattle.cht_run.specs.Runs.{IsPolling}
+use Rattle.cht_run.specs.Underway.{IsAt, polled}
+use Rattle.cht_run.proofs.PollStarts.{first_planned, work_step, poll_at, poll_polls, poll_fits}
 use Rattle.cht_run.proofs.table.Cht.poll_on.Goals as goal
 
-pub next_poll-requires-clause-may : goal.next_poll-requires-clause-may
-next_poll-requires-clause-may c =
-    may_go_on c.args.self.now c.args.seat.now c.run_work_poll.new.seat c.run_work_poll.result c.finish-own.result.0 c.requires.of c.run_work_poll.ensures.ran c.finish-own.ensures.own c.args.work.poll c.requires.work.0 c.requires.work.1.unfinished c.requires.work.1.next.first c.requires.plan.0 c.requires.plan.1
-    (answer.PendingSeat c.in-PendingSeat.number) (c.finish-own.ensures.answer ∙ ap plan.Answered c.in-PendingSeat.is) refl refl
-    (sound_left c.args.self.now c.args.seat.now c.run_work_poll.new.seat _ c.run_work_poll.result c.requires.of c.run_work_poll.ensures.ran c.finish-own.result.0 c.finish-own.ensures.sound)
+pub begin-word-requires-clause-next : goal.begin-word-requires-clause-next
+begin-word-requires-clause-next g c =
+    let may = c.requires.polls in
+    subst (λ (k : Call). plan_of (first_of c.args.seat.now.me.0 k) ≡ plan.Step c.step-step.result) (sym may.asks)
+    (first_planned c.args.self.now g.M.Began.sight g.M.Began.call c.args.seat.now c.args.state.now c.step-step.result may c.requires.pends c.requires.goes (c.step-step.ensures.value c.args.self.now.origin.table.shape))
 
-pub next_poll-requires-in-PendingBucket-clause-may : goal.next_poll-requires-in-PendingBucket-clause-may
-next_poll-requires-in-PendingBucket-clause-may c =
-    may_go_on c.args.self.now c.args.seat.now c.run_work_poll.new.seat c.run_work_poll.result c.finish-own.result.0 c.requires.of c.run_work_poll.ensures.ran c.finish-own.ensures.own c.args.work.poll c.requires.work.0 c.requires.work.1.unfinished c.requires.work.1.next.first c.requires.plan.0 c.requires.plan.1
-    (answer.PendingBucket c.in-PendingBucket.row c.in-PendingBucket.bucket) (c.finish-own.ensures.answer ∙ ap plan.Answered c.in-PendingBucket.is) refl refl
-    (sound_left c.args.self.now c.args.seat.now c.run_work_poll.new.seat _ c.run_work_poll.result c.requires.of c.run_work_poll.ensures.ran c.finish-own.result.0 c.finish-own.ensures.sound)
+pub begin-word-requires-clause-sound : goal.begin-word-requires-clause-sound
+begin-word-requires-clause-sound g c =
+    let shape = c.args.self.now.origin.table.shape in
+    subst (IsSoundStep shape c.args.seat.now.me.0.number) (sym (c.step-step.ensures.value shape)) (work_step shape c.args.state.now c.args.seat.now.me.0.number c.requires.polls.sound)
 
-pub unreachable-requires : goal.unreachable-requires
-unreachable-requires c =
-    polls_nothing_else c.args.self.now c.args.seat.now c.run_work_poll.new.seat c.run_work_poll.result c.finish-own.result.0 c.requires.of c.run_work_poll.ensures.ran c.finish-own.ensures.own c.args.work.poll c.requires.work.0 c.requires.work.1.unfinished c.requires.work.1.next.first c.requires.plan.0 c.requires.plan.1
-    c.finish-own.result.1 c.finish-own.ensures.answer c.in_default.not-Done c.in_default.not-PendingSeat c.in_default.not-PendingBucket
+pub poll_clean-requires-clause-fits : goal.poll_clean-requires-clause-fits
+poll_clean-requires-clause-fits g c =
+    let shape = c.args.self.now.origin.table.shape in
+    let may = c.requires.polls in
+    let told = subst (λ (k : Call). GoesFirst k c.args.seat.now.me.0 c.begin-word.result c.begin-word.new.seat.me.0) may.asks c.begin-word.ensures.told in
+    subst (λ (w : Work). CanBeFound shape (work_row shape w).step c.begin-word.result) c.in-Clean.is
+    (poll_fits c.args.self.now g.M.Began.sight g.M.Began.call c.args.seat.now c.args.state.now c.step-step.result may c.requires.pends c.requires.goes (c.step-step.ensures.value shape) c.begin-word.new.seat c.begin-word.result c.begin-word.ensures.sits told)
 
-pub returns-in-Done-clause-polled : goal.returns-in-Done-clause-polled
-returns-in-Done-clause-polled c = λ state is.
-    poll_done c.args.self.now c.args.seat.now c.run_work_poll.new.seat c.run_work_poll.result c.finish-own.result.0 c.requires.of c.run_work_poll.ensures.ran c.finish-own.ensures.own c.args.work.poll state is c.requires.work.1.next.first c.requires.plan.0 c.requires.plan.1
-    c.in-Done.worked (c.finish-own.ensures.answer ∙ ap plan.Answered c.in-Done.is)
+pub poll_clean-requires-clause-at : goal.poll_clean-requires-clause-at
+poll_clean-requires-clause-at g c =
+    let shape = c.args.self.now.origin.table.shape in
+    let may = c.requires.polls in
+    let told = subst (λ (k : Call). GoesFirst k c.args.seat.now.me.0 c.begin-word.result c.begin-word.new.seat.me.0) may.asks c.begin-word.ensures.told in
+    subst (λ (w : Work). IsAt c.args.self.now g.M.Began.sight g.M.Began.call c.begin-word.new.seat (polled g.M.Began.sight ((work_row shape (resumes w).0).next c.begin-word.result))) c.in-Clean.is
+    (poll_at c.args.self.now g.M.Began.sight g.M.Began.call c.args.seat.now c.args.state.now c.step-step.result may c.requires.pends c.requires.goes (c.step-step.ensures.value shape) c.begin-word.new.seat c.begin-word.result c.begin-word.ensures.sits told)
 
-pub returns-in-PendingSeat-clause-polled : goal.returns-in-PendingSeat-clause-polled
-returns-in-PendingSeat-clause-polled c = λ state is.
-    poll_waits c.args.self.now c.args.seat.now c.run_work_poll.new.seat c.run_work_poll.result c.finish-own.result.0 c.requires.of c.run_work_poll.ensures.ran c.finish-own.ensures.own c.args.work.poll state is c.requires.work.1.next.first c.requires.plan.0 c.requires.plan.1
-    (answer.PendingSeat c.in-PendingSeat.number) (c.finish-own.ensures.answer ∙ ap plan.Answered c.in-PendingSeat.is) refl refl c.next_poll.result c.next_poll.ensures.value c.next_poll.ensures.sound
+pub poll_clean-requires-clause-polls : goal.poll_clean-requires-clause-polls
+poll_clean-requires-clause-polls g c =
+    let shape = c.args.self.now.origin.table.shape in
+    let may = c.requires.polls in
+    let told = subst (λ (k : Call). GoesFirst k c.args.seat.now.me.0 c.begin-word.result c.begin-word.new.seat.me.0) may.asks c.begin-word.ensures.told in
+    subst (λ (w : Work). IsPolling shape (polled g.M.Began.sight ((work_row shape (resumes w).0).next c.begin-word.result))) c.in-Clean.is
+    (poll_polls c.args.self.now g.M.Began.sight g.M.Began.call c.args.seat.now c.args.state.now c.step-step.result may c.requires.pends c.requires.goes (c.step-step.ensures.value shape) c.begin-word.new.seat c.begin-word.result c.begin-word.ensures.sits told)
 
-pub returns-in-PendingBucket-clause-polled : goal.returns-in-PendingBucket-clause-polled
-returns-in-PendingBucket-clause-polled c = λ state is.
-    poll_waits c.args.self.now c.args.seat.now c.run_work_poll.new.seat c.run_work_poll.result c.finish-own.result.0 c.requires.of c.run_work_poll.ensures.ran c.finish-own.ensures.own c.args.work.poll state is c.requires.work.1.next.first c.requires.plan.0 c.requires.plan.1
-    (answer.PendingBucket c.in-PendingBucket.row c.in-PendingBucket.bucket) (c.finish-own.ensures.answer ∙ ap plan.Answered c.in-PendingBucket.is) refl refl c.next_poll-in-PendingBucket.result
-    c.next_poll-in-PendingBucket.ensures.value c.next_poll-in-PendingBucket.ensures.sound
+pub poll_resize-requires-clause-fits : goal.poll_resize-requires-clause-fits
+poll_resize-requires-clause-fits g c =
+    let shape = c.args.self.now.origin.table.shape in
+    let may = c.requires.polls in
+    let told = subst (λ (k : Call). GoesFirst k c.args.seat.now.me.0 c.begin-word.result c.begin-word.new.seat.me.0) may.asks c.begin-word.ensures.told in
+    subst (λ (w : Work). CanBeFound shape (work_row shape w).step c.begin-word.result) c.in-Resize.is
+    (poll_fits c.args.self.now g.M.Began.sight g.M.Began.call c.args.seat.now c.args.state.now c.step-step.result may c.requires.pends c.requires.goes (c.step-step.ensures.value shape) c.begin-word.new.seat c.begin-word.result c.begin-word.ensures.sits told)
+
+pub poll_resize-requires-clause-at : goal.poll_resize-requires-clause-at
+poll_resize-requires-clause-at g c =
+    let shape = c.args.self.now.origin.table.shape in
+    let may = c.requires.polls in
+    let told = subst (λ (k : Call). GoesFirst k c.args.seat.now.me.0 c.begin-word.result c.begin-word.new.seat.me.0) may.asks c.begin-word.ensures.told in
+    subst (λ (w : Work). IsAt c.args.self.now g.M.Began.sight g.M.Began.call c.begin-word.new.seat (polled g.M.Began.sight ((work_row shape (resumes w).0).next c.begin-word.result))) c.in-Resize.is
+    (poll_at c.args.self.now g.M.Began.sight g.M.Began.call c.args.seat.now c.args.state.now c.step-step.result may c.requires.pends c.requires.goes (c.step-step.ensures.value shape) c.begin-word.new.seat c.begin-word.result c.begin-word.ensures.sits told)
+
+pub poll_resize-requires-clause-polls : goal.poll_resize-requires-clause-polls
+poll_resize-requires-clause-polls g c =
+    let shape = c.args.self.now.origin.table.shape in
+    let may = c.requires.polls in
+    let told = subst (λ (k : Call). GoesFirst k c.args.seat.now.me.0 c.begin-word.result c.begin-word.new.seat.me.0) may.asks c.begin-word.ensures.told in
+    subst (λ (w : Work). IsPolling shape (polled g.M.Began.sight ((work_row shape (resumes w).0).next c.begin-word.result))) c.in-Resize.is
+    (poll_polls c.args.self.now g.M.Began.sight g.M.Began.call c.args.seat.now c.args.state.now c.step-step.result may c.requires.pends c.requires.goes (c.step-step.ensures.value shape) c.begin-word.new.seat c.begin-word.result c.begin-word.ensures.sits told)

@@ -1,4 +1,5 @@
+use Rattle.call_machine.specs.declared.call.Call.TheVariants as call
 use Rattle.cht_run.proofs.table.Cht.run_sweep.Given as goal
 
-abbrev pub ghosts-begin_run_wait : goal.ghosts-begin_run_wait
-ghosts-begin_run_wait g a = record { sight = a.seat.now.me.0; call = a.call }
+abbrev pub ghosts-sweep_of : goal.ghosts-sweep_of
+ghosts-sweep_of g a = record { sight = a.seat.now.me.0; call = call.Sweep a.text }
