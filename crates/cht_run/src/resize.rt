@@ -3,7 +3,6 @@
 ghost use Rattle.std.specs.Prelude.{◌≡◌};
 ghost use Rattle.atomic_step.specs.SoundStep.{CanBeFound};
 ghost use Rattle.call_machine.specs.declared.grace.GraceStage.TheVariants.{RaiseCounter, LoadSection};
-ghost use Rattle.call_machine.specs.declared.lock.LockStage.TheVariants as lock;
 ghost use Rattle.call_machine.specs.declared.resize.ResizeStage.TheVariants as stage;
 ghost use Rattle.call_machine.specs.Resize.{goes, graces_on, has_locked, locks_on, raises, resize_row};
 ghost use Rattle.cht_run.specs.Pending.{ResizePends, IsResizeHeld};
