@@ -1,17 +1,11 @@
 -- What `atomic_table` asks of a step: one law for all kinds of step and all operations.
-use Rattle.std.proofs.Common.{◌≡◌, ℕ, ◌+◌, ◌%◌, ◌^◌, ◌<◌, Bool, true, false, ◌==◌, cond, List, ◌++◌, Some, set, length, refl, sym, ap, subst, ◌∙◌, arith}
+use Rattle.std.proofs.Common.{◌≡◌, ℕ, ◌++◌, Some, set, refl, sym, ap, subst, ◌∙◌, arith}
 use Rattle.std.proofs.lemmas.List.{set-set}
 use mathlib.Core.Option.{some}
 use lib.ListN.{get_elem?}
-use prog.Atomic.{either}
-use Rattle.atomic_table.specs.Table.{State, Me, keeps, Allows}
+use Rattle.atomic_table.specs.Table.{Me, keeps, Allows}
 use Rattle.atomic_table.proofs.Lists.{set_here}
-use Rattle.table_shape.specs.declared.shape.Shape.{Shape}
-use Rattle.table_shape.specs.declared.place.Place.{Place}
 use Rattle.table_shape.specs.Place.{index_of}
-use Rattle.table_shape.specs.Shape.{words_of}
-use Rattle.table_shape.proofs.Places.{index_within}
-use Rattle.atomic_step.specs.declared.access.Deed.{Deed}
 use Rattle.atomic_step.specs.declared.plan.Plan.TheVariants as plan
 use Rattle.atomic_step.specs.declared.step.Step.{Step}
 use Rattle.atomic_step.specs.Access.{word_after}
@@ -19,7 +13,6 @@ use Rattle.atomic_step.specs.Step.{access_of}
 use Rattle.call_machine.specs.declared.call.Call.{Call}
 use Rattle.call_machine.specs.declared.machine.Machine.{Machine}
 use Rattle.call_machine.specs.Machine.{plan_of}
-use Rattle.cht_core.specs.declared.seat.Seat.TheVariants as doing
 use Rattle.cht_run.specs.declared.sight.Origin.{Origin}
 use Rattle.cht_run.specs.declared.sight.Sight.{Sight}
 use Rattle.cht_run.specs.Begins.{own_at, first_of, begun, MayCall, ToldFirst}
@@ -33,7 +26,7 @@ use Rattle.call_machine.specs.SoundMachine.{IsSoundOwn}
 use Rattle.atomic_step.specs.Table.{word_at, words_after}
 use Rattle.cht_run.specs.Told.{Told, IsAbout}
 use Rattle.cht_run.proofs.Begins.{begins, own_known, own_owner, at_within, mine_still}
-use Rattle.cht_run.proofs.Steps.{Seats, part_of, step_sound, after, is_told, kept_after}
+use Rattle.cht_run.proofs.Steps.{Seats, part_of, after, is_told, kept_after}
 
 -- a step that goes on, of the machine in its view
 pub goes_on_allowed : (o : Origin) (slots id : ℕ) (me : Me (Unit {0}) Sight) (m : Machine) (stp : Step) → IsAbout me.0 m stp → me.0.origin ≡ o →

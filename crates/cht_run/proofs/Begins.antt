@@ -1,5 +1,5 @@
 -- A seat between its calls begins one, and the rule is kept.
-use Rattle.std.proofs.Common.{◌≡◌, ◌≢◌, ◌⊎◌, ⊎_elim, ℕ, zero, suc, length, ◌+◌, ◌-◌, ◌≤◌, ◌<◌, Bool, true, false, cond, ◌&&◌, ◌||◌, List, [], ◌∷◌, ◌++◌, set, Option, Some, None, IfSome, inl, inr, refl, sym, ap, subst, ◌∙◌, arith}
+use Rattle.std.proofs.Common.{◌≡◌, ◌≢◌, ⊎_elim, ℕ, zero, suc, length, ◌≤◌, ◌<◌, Bool, true, false, cond, ◌&&◌, ◌||◌, List, [], ◌∷◌, ◌++◌, set, Option, Some, IfSome, inl, inr, refl, sym, ap, subst, ◌∙◌, arith}
 use Rattle.std.proofs.lemmas.Bool.{cases_eq}
 use Rattle.std.proofs.lemmas.List.Elements.{All-head, All-tail}
 use Rattle.std.proofs.lemmas.List.Folds.{list_any-append}
@@ -16,7 +16,6 @@ use Rattle.intern_log.specs.Log.{creates}
 use Rattle.intern_log.specs.Now.{with_at}
 use Rattle.intern_log.specs.Own.{is_among, is_visible, mine, held, total}
 use Rattle.intern_log.proofs.Logs.{mine-append}
-use Rattle.atomic_step.specs.declared.answer.Answer.{Answer}
 use Rattle.atomic_step.specs.declared.plan.Plan.{Plan}
 use Rattle.atomic_step.specs.declared.plan.Plan.TheVariants as plan
 use Rattle.call_machine.specs.declared.call.Call.{Call}
@@ -27,14 +26,13 @@ use Rattle.call_machine.specs.Machine.{caller_of, started, plan_of, own_of}
 use Rattle.call_machine.specs.SoundMachine.{MayStart, IsInsideOwn}
 use Rattle.cht_core.specs.declared.seat.Seat.{Seat}
 use Rattle.cht_core.specs.declared.seat.Seat.TheVariants as doing
-use Rattle.cht_core.specs.declared.table.Table.{Table}
-use Rattle.cht_core.specs.Begins.{MeetsLog, MayRead, IsHeld, IsCreated, idle_view, begun_view, new_view, first_own}
+use Rattle.cht_core.specs.Begins.{MeetsLog, MayRead, IsCreated, idle_view}
 use Rattle.cht_core.specs.Causes.{IsResting, now_in}
-use Rattle.cht_core.specs.Invariant.{Inv, Moves}
+use Rattle.cht_core.specs.Invariant.{Inv}
 use Rattle.cht_core.specs.Memory.{Memory, memory_of}
-use Rattle.cht_core.specs.Past.{Past, past_of}
-use Rattle.cht_core.specs.State.{HasResting, at_rest, seat_after}
-use Rattle.cht_core.specs.View.{View, IsOwnOf, KnowsOwn, Knows}
+use Rattle.cht_core.specs.Past.{past_of}
+use Rattle.cht_core.specs.State.{HasResting, at_rest}
+use Rattle.cht_core.specs.View.{View, IsOwnOf, KnowsOwn}
 use Rattle.cht_core.proofs.Basics.{with_here, with_other}
 use Rattle.cht_core.proofs.CauseRests.{headed_begins}
 use Rattle.cht_core.proofs.CauseFew.{work_has_lock}

@@ -19,7 +19,6 @@ use Rattle.call_machine.specs.declared.begin.Task.{Task}
 use Rattle.call_machine.specs.declared.begin.Task.TheVariants as task
 use Rattle.call_machine.specs.declared.call.Call.{Call}
 use Rattle.call_machine.specs.declared.caller.Caller.{Caller}
-use Rattle.call_machine.specs.declared.grace.Grace.{Grace}
 use Rattle.call_machine.specs.declared.grace.GraceStage.TheVariants.{RaiseCounter, LoadSection}
 use Rattle.call_machine.specs.declared.machine.Machine.{Machine}
 use Rattle.call_machine.specs.declared.machine.Machine.TheVariants as machine

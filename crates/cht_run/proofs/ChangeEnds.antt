@@ -1,11 +1,11 @@
 -- A call by handle has come to its end.
-use Rattle.std.proofs.Common.{◌≡◌, ℕ, ◌+◌, ◌||◌, Bool, true, false, List, [], ◌∷◌, ◌++◌, Option, Some, None, refl, sym, ap, subst, ◌∙◌}
+use Rattle.std.proofs.Common.{◌≡◌, ℕ, ◌+◌, Bool, true, false, List, [], ◌∷◌, ◌++◌, refl, sym, ap, subst, ◌∙◌}
 use Rattle.std.proofs.lemmas.List.{append-nil, append_assoc}
 use Rattle.intern_log.specs.declared.event.Event.{Event}
 use Rattle.intern_log.specs.declared.event.Handle.{Handle}
 use Rattle.intern_log.specs.declared.event.What.{What}
 use Rattle.intern_log.specs.declared.event.What.TheVariants as what
-use Rattle.intern_log.specs.Log.{creates, next, map_after, map_of}
+use Rattle.intern_log.specs.Log.{creates, map_of}
 use Rattle.intern_log.specs.TextMap.{no_texts, IsLive}
 use Rattle.intern_log.proofs.Gone.{gone-next}
 use Rattle.intern_log.proofs.Handles.{handle_eq-Decides}

@@ -1,14 +1,12 @@
 -- A call by handle begins.
-use Rattle.std.proofs.Common.{◌≡◌, ℕ, ◌<◌, true, List, [], is_some, Option, Some, None, refl, sym, ap, subst, ◌∙◌}
+use Rattle.std.proofs.Common.{◌≡◌, ℕ, ◌<◌, true, List, is_some, refl, sym, ap, subst, ◌∙◌}
 use Rattle.intern_log.specs.declared.event.Event.{Event}
 use Rattle.intern_log.specs.declared.event.Handle.{Handle}
 use Rattle.intern_log.specs.declared.event.Kind.{Kind}
 use Rattle.atomic_step.specs.declared.count.Change.{Change}
 use Rattle.atomic_step.specs.declared.count.Change.TheVariants as change
-use Rattle.atomic_step.specs.declared.plan.Plan.TheVariants as plan
 use Rattle.atomic_step.specs.declared.step.Step.TheVariants as step
 use Rattle.table_shape.specs.declared.shape.Shape.{Shape}
-use Rattle.call_machine.specs.declared.call.Call.{Call}
 use Rattle.call_machine.specs.declared.handle.HandleStage.TheVariants as handle
 use Rattle.call_machine.specs.declared.machine.Machine.{Machine}
 use Rattle.call_machine.specs.declared.machine.Machine.TheVariants as machine
@@ -25,11 +23,10 @@ use Rattle.cht_core.specs.declared.table.Table.{Table}
 use Rattle.cht_core.specs.Begins.{HasBytes, MeetsLog}
 use Rattle.cht_core.specs.Caused.{MayCause}
 use Rattle.cht_core.specs.CauseCalls.{WasMade}
-use Rattle.cht_core.specs.Windows.{IsTold}
 use Rattle.cht_run.specs.declared.sight.Origin.{Origin}
 use Rattle.cht_run.specs.declared.sight.Sight.{Sight}
 use Rattle.cht_run.specs.declared.table.Cht.{Cht}
-use Rattle.cht_run.specs.Begins.{own_at, is_resting, first_of}
+use Rattle.cht_run.specs.Begins.{own_at, is_resting}
 use Rattle.cht_run.specs.Calls.{at_stage}
 use Rattle.cht_run.specs.Changes.{changes, MayChange}
 use Rattle.cht_run.specs.History.{log_of, is_known, HasHandles}

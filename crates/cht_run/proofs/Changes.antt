@@ -1,5 +1,5 @@
 -- What the calls by handle have done at each of their stages.
-use Rattle.std.proofs.Common.{◌≡◌, ℕ, ◌+◌, ◌<◌, ◌≤◌, ◌==◌, Bool, true, false, cond, List, [], ◌∷◌, ◌++◌, Option, Some, None, refl, sym, ap, subst, ◌∙◌, arith}
+use Rattle.std.proofs.Common.{◌≡◌, ℕ, ◌==◌, Bool, true, false, cond, List, [], ◌∷◌, ◌++◌, Some, None, refl, sym, ap, subst, ◌∙◌, arith}
 use Rattle.std.proofs.lemmas.Bool.{eqb-true}
 use Rattle.std.proofs.lemmas.List.{append-nil, append_assoc}
 use Rattle.intern_log.specs.declared.event.Event.{Event}
@@ -13,7 +13,7 @@ use Rattle.atomic_step.specs.declared.count.Change.{Change}
 use Rattle.atomic_step.specs.declared.count.Change.TheVariants as change
 use Rattle.atomic_step.specs.declared.step.Step.{Step}
 use Rattle.atomic_step.specs.declared.step.Step.TheVariants as step
-use Rattle.atomic_step.specs.Count.{holds_of, holds_word}
+use Rattle.atomic_step.specs.Count.{holds_of}
 use Rattle.atomic_step.specs.Event.{change_of, found_handle}
 use Rattle.call_machine.specs.declared.call.Call.{Call}
 use Rattle.call_machine.specs.declared.handle.HandleStage.TheVariants as handle
@@ -27,14 +27,12 @@ use Rattle.cht_core.specs.CauseCalls.{HasCount}
 use Rattle.cht_core.specs.Causes.{now_in}
 use Rattle.cht_core.specs.Invariant.{events_of}
 use Rattle.cht_core.specs.Past.{by, past_of}
-use Rattle.cht_core.specs.Tidy.{IsTidy}
 use Rattle.cht_core.specs.Windows.{IsTold, whats_by}
 use Rattle.cht_core.specs.WordSays.{SaysOfCount}
 use Rattle.cht_core.proofs.CauseLogs.{told_is_legal}
 use Rattle.cht_core.proofs.CauseWords.{word_of_entry, legal_at, texts_are}
 use Rattle.cht_core.proofs.Counts.{holds_in_word}
 use Rattle.cht_core.proofs.Windows.{whats_of, whats_by-append, whats_by_own}
-use Rattle.cht_run.specs.declared.sight.Entry.{Entry}
 use Rattle.cht_run.specs.declared.sight.Origin.{Origin}
 use Rattle.cht_run.specs.declared.sight.Sight.{Sight}
 use Rattle.cht_run.specs.declared.table.Cht.{Cht}

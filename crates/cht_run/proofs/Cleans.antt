@@ -15,20 +15,18 @@ use Rattle.call_machine.specs.declared.clean.CleanStage.{CleanStage}
 use Rattle.call_machine.specs.declared.clean.CleanStage.TheVariants as stage
 use Rattle.call_machine.specs.declared.clean.Freeing.{Freeing}
 use Rattle.call_machine.specs.declared.clean.Freeing.TheVariants as freeing_at
-use Rattle.call_machine.specs.declared.grace.Gracing.{Gracing}
-use Rattle.call_machine.specs.declared.grace.Gracing.TheVariants as gracing
 use Rattle.call_machine.specs.declared.grace.GraceStage.{GraceStage}
 use Rattle.call_machine.specs.declared.grace.GraceStage.TheVariants.{RaiseCounter, LoadSection}
 use Rattle.call_machine.specs.declared.machine.Machine.{Machine}
 use Rattle.call_machine.specs.declared.pass.Cleaning.{Cleaning}
 use Rattle.call_machine.specs.declared.pass.PassStage.{PassStage}
 use Rattle.call_machine.specs.declared.pass.PassStage.TheVariants as pass
-use Rattle.call_machine.specs.Machine.{plan_of, got_of}
+use Rattle.call_machine.specs.Machine.{plan_of}
 use Rattle.call_machine.specs.Pass.{passes_on, begins_pass}
 use Rattle.cht_core.specs.PollMeasure.{poll_left}
 use Rattle.cht_run.specs.Pending.{IsCleanHeld}
 use Rattle.cht_run.specs.Runs.{IsPolling}
-use Rattle.call_machine.specs.Clean.{Went, goes, cleans_on, clean_row, graces_on, frees_on, locks_on, waits_at, raises}
+use Rattle.call_machine.specs.Clean.{Went, goes, cleans_on, clean_row, frees_on, locks_on, waits_at, raises}
 use Rattle.call_machine.specs.Grace.{held_back}
 use Rattle.call_machine.specs.SoundClean.{IsSoundClean}
 use Rattle.cht_run.specs.declared.sight.Origin.{Origin}

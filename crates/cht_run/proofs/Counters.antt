@@ -1,5 +1,5 @@
 -- The grace counter of a log grows.
-use Rattle.std.proofs.Common.{◌≡◌, ℕ, ◌+◌, ◌*◌, ◌≤◌, List, [], ◌∷◌, ◌++◌, sym, ap, ◌∙◌, arith}
+use Rattle.std.proofs.Common.{◌≡◌, ℕ, ◌+◌, ◌≤◌, List, [], ◌∷◌, ◌++◌, sym, ap, ◌∙◌, arith}
 use Rattle.std.proofs.lemmas.List.{append_assoc}
 use Rattle.intern_log.specs.declared.event.Event.{Event}
 use Rattle.intern_log.specs.declared.event.What.{What}
@@ -11,7 +11,7 @@ use Rattle.cht_core.specs.Causes.{now_in}
 use Rattle.cht_core.specs.Past.{by}
 use Rattle.cht_run.specs.Graces.{counter_in, IsRaised}
 
-graces_by : (n : Now) (k : ℕ) (w : What) → n.graces ≤ (changed_by n k w).graces
+pub graces_by : (n : Now) (k : ℕ) (w : What) → n.graces ≤ (changed_by n k w).graces
 graces_by n k what.Grace = omega arith
 graces_by n k _ = omega arith
 
@@ -22,7 +22,7 @@ graces_grow n (e ∷ log) =
     let more = graces_grow (now_after_event n e) log in
     omega (arith, one, more)
 
-now_more : (t : Table) (log more : List Event) → now_in t (log ++ more) ≡ now_after (now_in t log) more
+pub now_more : (t : Table) (log more : List Event) → now_in t (log ++ more) ≡ now_after (now_in t log) more
 now_more t log more = now_after-append (opening t.shape.min_level) log more
 
 pub counter_grows : (t : Table) (log more : List Event) → counter_in t log ≤ counter_in t (log ++ more)

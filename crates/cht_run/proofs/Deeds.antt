@@ -1,14 +1,12 @@
 -- What an operation on the shared words asks, and where it leaves its seat.
-use Rattle.std.proofs.Common.{◌≡◌, ℕ, ◌<◌, Bool, true, false, ◌==◌, cond, List, Option, Some, None, refl, sym, ap, subst, ◌∙◌, arith}
+use Rattle.std.proofs.Common.{◌≡◌, ℕ, ◌<◌, Bool, true, false, cond, Some, refl, sym, ap, subst, ◌∙◌, arith}
 use prog.Atomic.{either}
-use Rattle.atomic_table.specs.Table.{State, Me, stepped, Allows}
+use Rattle.atomic_table.specs.Table.{Me, stepped, Allows}
 use Rattle.table_shape.specs.declared.shape.Shape.{Shape}
-use Rattle.table_shape.specs.Place.{index_of, IsInside}
+use Rattle.table_shape.specs.Place.{index_of}
 use Rattle.table_shape.specs.Shape.{words_of}
 use Rattle.table_shape.proofs.Places.{index_within}
-use Rattle.intern_log.specs.Own.{is_among}
 use Rattle.atomic_step.specs.declared.access.Access.{Access}
-use Rattle.atomic_step.specs.declared.access.Deed.{Deed}
 use Rattle.atomic_step.specs.declared.plan.Plan.{Plan}
 use Rattle.atomic_step.specs.declared.plan.Plan.TheVariants as plan
 use Rattle.atomic_step.specs.declared.step.Step.{Step}
@@ -17,7 +15,7 @@ use Rattle.atomic_step.specs.SoundStep.{IsSoundStep}
 use Rattle.atomic_step.specs.Step.{access_of}
 use Rattle.call_machine.specs.declared.call.Call.{Call}
 use Rattle.call_machine.specs.declared.machine.Machine.{Machine}
-use Rattle.call_machine.specs.Machine.{plan_of, shape_of, number_of}
+use Rattle.call_machine.specs.Machine.{plan_of, shape_of}
 use Rattle.call_machine.proofs.Machines.{step_law}
 use Rattle.cht_core.specs.declared.seat.Seat.{Seat}
 use Rattle.cht_core.specs.declared.seat.Seat.TheVariants as doing
@@ -25,7 +23,7 @@ use Rattle.cht_run.specs.declared.sight.Origin.{Origin}
 use Rattle.cht_run.specs.declared.sight.Sight.{Sight}
 use Rattle.cht_run.specs.Begins.{first_of, begun, next_in, step_by, MayCall, SoundIn, IsSoundOf, FitsIn, ToldFirst, GoesOn, GoesFirst}
 use Rattle.cht_run.specs.Rule.{is_seat, Kept}
-use Rattle.cht_run.specs.Told.{Told, IsAbout, sight_after}
+use Rattle.cht_run.specs.Told.{Told, IsAbout}
 use Rattle.cht_run.proofs.Allows.{goes_on_allowed, goes_first_allowed}
 
 -- THE STEP THAT COMES NEXT

@@ -1,5 +1,5 @@
 -- A split draws a number, or finds none left.
-use Rattle.std.proofs.Common.{◌≡◌, ◌≢◌, ℕ, ◌+◌, ◌<◌, ◌≤◌, Bool, true, false, cond, ◌||◌, nat_lt, nat_le, List, [], ◌∷◌, ◌++◌, map, length, Option, Some, None, refl, sym, ap, subst, ◌∙◌, arith}
+use Rattle.std.proofs.Common.{◌≡◌, ◌≢◌, ℕ, ◌+◌, ◌<◌, ◌≤◌, true, false, cond, ◌||◌, nat_lt, nat_le, List, [], ◌∷◌, ◌++◌, map, length, Some, None, refl, sym, ap, subst, ◌∙◌, arith}
 use Rattle.std.proofs.lemmas.Bool.{ne_eqb}
 use Rattle.std.proofs.lemmas.Bool.Decides.{nat_tests}
 use Rattle.std.proofs.lemmas.List.{append-nil, append_assoc, append_cancel_left, length-append}
@@ -15,12 +15,11 @@ use Rattle.call_machine.specs.declared.stage.Along.{Along}
 use Rattle.call_machine.specs.declared.stage.CallStage.{CallStage}
 use Rattle.call_machine.specs.declared.stage.CallStage.TheVariants as stage
 use Rattle.call_machine.specs.declared.stage.Request.{Request}
-use Rattle.call_machine.specs.Machine.{got_of}
 use Rattle.call_machine.specs.Sought.{asked_of}
 use Rattle.cht_core.specs.declared.seat.Seat.TheVariants as doing
 use Rattle.cht_core.specs.Begins.{first_own}
 use Rattle.cht_core.specs.State.{drawn_in}
-use Rattle.cht_core.specs.Windows.{IsTold, whats_by}
+use Rattle.cht_core.specs.Windows.{whats_by}
 use Rattle.cht_core.proofs.Windows.{whats_by-append}
 use Rattle.cht_run.specs.declared.sight.Entry.{Entry}
 use Rattle.cht_run.specs.declared.sight.Entry.TheVariants as entry
@@ -30,15 +29,15 @@ use Rattle.cht_run.specs.declared.table.Cht.{Cht}
 use Rattle.cht_run.specs.Begins.{begun, GoesOn, GoesFirst}
 use Rattle.cht_run.specs.Calls.{at_stage, At}
 use Rattle.cht_run.specs.Changes.{Made}
-use Rattle.cht_run.specs.Draws.{AllDrawn, counted, Drawn, DrawnAs}
-use Rattle.cht_run.specs.History.{log_of, draws_of, by_of, is_drawn, HasSeen, NoneBy, IsOrderly, IsNumbered, entries_by, told_by}
+use Rattle.cht_run.specs.Draws.{AllDrawn, counted, DrawnAs}
+use Rattle.cht_run.specs.History.{log_of, draws_of, by_of, HasSeen, NoneBy, IsOrderly, entries_by, told_by}
 use Rattle.cht_run.specs.Seats.{Raw, Sits}
 use Rattle.cht_run.specs.Starts.{Starts}
 use Rattle.cht_run.specs.Told.{adds, drew, kids_after, given_after, Told}
 use Rattle.cht_run.proofs.Changes.{made}
 use Rattle.cht_run.proofs.Firsts as firsts
 use Rattle.cht_run.proofs.Goes.{entries_none, got_there, goes, told_there}
-use Rattle.cht_run.proofs.Histories.{log-append, draws-append, among_here, none_append, none_undrawn, orderly_first, orderly_part}
+use Rattle.cht_run.proofs.Histories.{log-append, draws-append, none_append, none_undrawn, orderly_first, orderly_part}
 
 -- THE NUMBER OF DRAWN SEATS IS LOADED
 

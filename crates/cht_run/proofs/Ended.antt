@@ -1,6 +1,6 @@
 -- A call of a seat has come to its end.
-use Rattle.std.proofs.Common.{◌≡◌, ◌⊎◌, ℕ, true, List, [], ◌∷◌, ◌++◌, map, Option, Some, refl, inr, sym, ap, subst, ◌∙◌}
-use Rattle.std.proofs.lemmas.List.{append-nil, append_cancel_left}
+use Rattle.std.proofs.Common.{◌≡◌, ◌⊎◌, List, [], ◌++◌, map, refl, inr, sym, ap, subst, ◌∙◌}
+use Rattle.std.proofs.lemmas.List.{append_cancel_left}
 use Rattle.intern_log.specs.declared.event.Event.{Event}
 use Rattle.intern_log.specs.declared.event.What.{What}
 use Rattle.atomic_step.specs.declared.answer.Answer.{Answer}
@@ -24,7 +24,7 @@ use Rattle.cht_run.specs.Calls.{Went, at_stage, At}
 use Rattle.cht_run.specs.Changes.{Made}
 use Rattle.cht_run.specs.Ended.{Ended, KeepsWork, Only}
 use Rattle.cht_run.specs.History.{log_of, HasSeen, entries_by, told_by}
-use Rattle.cht_run.specs.Seats.{Raw, sight, history, seen, numbers}
+use Rattle.cht_run.specs.Seats.{Raw, sight, history, seen}
 use Rattle.cht_run.proofs.Goes.{went_answered}
 use Rattle.cht_run.proofs.Histories.{log-append}
 

@@ -1,5 +1,5 @@
 -- A call makes its first step.
-use Rattle.std.proofs.Common.{◌≡◌, ℕ, ◌<◌, ◌^◌, Option, None, [], sym, ap, subst, ◌∙◌}
+use Rattle.std.proofs.Common.{◌≡◌, ℕ, ◌<◌, ◌^◌, None, [], sym, ap, subst, ◌∙◌}
 use Rattle.table_shape.specs.Shape.{IsSound}
 use Rattle.atomic_step.specs.declared.step.Step.{Step}
 use Rattle.call_machine.specs.declared.call.Call.{Call}
@@ -10,7 +10,6 @@ use Rattle.call_machine.specs.declared.stage.Request.{Request}
 use Rattle.call_machine.specs.Calls.{next_at}
 use Rattle.call_machine.specs.Machine.{got_of}
 use Rattle.call_machine.specs.Sought.{asked_of}
-use Rattle.cht_core.specs.Caused.{MayCause}
 use Rattle.cht_core.specs.Past.{past_of, kind_of}
 use Rattle.cht_core.specs.State.{drawn_in}
 use Rattle.cht_core.specs.Windows.{IsTold}
@@ -18,7 +17,7 @@ use Rattle.cht_core.proofs.CauseCounts.{told_front}
 use Rattle.cht_run.specs.declared.sight.Origin.{Origin}
 use Rattle.cht_run.specs.declared.sight.Sight.{Sight}
 use Rattle.cht_run.specs.declared.table.Cht.{Cht}
-use Rattle.cht_run.specs.Begins.{own_at, first_of, begun, ToldFirst, GoesFirst}
+use Rattle.cht_run.specs.Begins.{first_of, begun, ToldFirst, GoesFirst}
 use Rattle.cht_run.specs.Calls.{Went, at_stage, At}
 use Rattle.cht_run.specs.History.{log_of}
 use Rattle.cht_run.specs.Seats.{Raw, Sits}

@@ -6,7 +6,7 @@ use Rattle.std.specs.List.{list_any, filter}
 use Rattle.intern_log.specs.declared.event.Event.{Event}
 use Rattle.intern_log.specs.declared.event.Handle.{Handle}
 use Rattle.intern_log.specs.declared.event.What.TheVariants as what
-use Rattle.intern_log.specs.Log.{creates, map_of, IsLegal}
+use Rattle.intern_log.specs.Log.{creates, IsLegal}
 use Rattle.intern_log.specs.Own.{is_visible, is_among, mine}
 use Rattle.intern_log.proofs.Logs.{IsLegal-pieces}
 use Rattle.cht_core.specs.declared.table.Table.{Table}

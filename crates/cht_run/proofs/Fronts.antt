@@ -1,5 +1,5 @@
 -- What is so of a history is so of each front of it.
-use Rattle.std.proofs.Common.{◌≡◌, ℕ, ◌+◌, true, List, [], ◌∷◌, ◌++◌, subst}
+use Rattle.std.proofs.Common.{ℕ, ◌+◌, List, [], ◌∷◌, ◌++◌, subst}
 use Rattle.cht_core.specs.declared.table.Table.{Table}
 use Rattle.cht_core.specs.Past.{past_of, kind_of}
 use Rattle.cht_core.specs.Windows.{IsTold}

@@ -1,6 +1,6 @@
 -- A call goes on from stage to stage by the words that it finds, and what it has found out goes along.
-use Rattle.std.proofs.Common.{◌≡◌, ◌≢◌, ℕ, ◌+◌, ◌<◌, ◌≤◌, ◌^◌, Bool, true, false, cond, ◌==◌, nat_eq, List, [], ◌∷◌, ◌++◌, map, Option, Some, None, IfSome, refl, sym, ap, subst, ◌∙◌, arith}
-use Rattle.std.proofs.lemmas.Bool.{ne_eqb, cases_eq}
+use Rattle.std.proofs.Common.{◌≡◌, ◌≢◌, ℕ, ◌<◌, ◌≤◌, ◌^◌, Bool, true, false, cond, List, [], ◌∷◌, ◌++◌, map, Option, Some, None, refl, sym, ap, subst, ◌∙◌, arith}
+use Rattle.std.proofs.lemmas.Bool.{ne_eqb}
 use Rattle.std.proofs.lemmas.List.{append-nil, append_assoc, map-append}
 use Rattle.std.proofs.lemmas.List.Elements.{All-head, All-tail, filter-append}
 use Rattle.table_shape.specs.declared.shape.Shape.{Shape}
@@ -9,7 +9,6 @@ use Rattle.intern_log.specs.declared.event.Event.{Event}
 use Rattle.intern_log.specs.declared.event.What.{What}
 use Rattle.intern_log.specs.Own.{is_among}
 use Rattle.atomic_step.specs.declared.answer.Answer.{Answer}
-use Rattle.atomic_step.specs.declared.plan.Plan.{Plan}
 use Rattle.atomic_step.specs.declared.plan.Plan.TheVariants as plan
 use Rattle.atomic_step.specs.declared.step.Step.{Step}
 use Rattle.atomic_step.specs.SoundStep.{HasSoundValue}
@@ -38,11 +37,10 @@ use Rattle.atomic_step.specs.Turn as turn
 use Rattle.atomic_step.specs.Turn.{Turn, map_turn, plan_in, next_in}
 use Rattle.call_machine.specs.CallEvents.{made_of}
 use Rattle.call_machine.specs.Calls.{turn_at, plan_at, next_at}
-use Rattle.call_machine.specs.Machine.{caller_of, starts, started, beside, begun_grace_poll, begun_work_poll, plan_of, got_of, event_of, shape_of, number_of, passed_of, IsSameMachine}
-use Rattle.call_machine.specs.SoundMachine.{IsSoundMachine, IsSoundOwn, FitsMachine, MayStart}
+use Rattle.call_machine.specs.Machine.{caller_of, starts, beside, begun_grace_poll, begun_work_poll, plan_of, got_of, event_of, shape_of, number_of, IsSameMachine}
+use Rattle.call_machine.specs.SoundMachine.{IsSoundMachine, FitsMachine, MayStart}
 use Rattle.call_machine.proofs.Nodes.{few_slots}
 use Rattle.call_machine.proofs.Machines.{shape_law, same_law, start_law}
-use Rattle.cht_core.specs.declared.seat.Seat.TheVariants as doing
 use Rattle.cht_core.specs.declared.table.Table.{Table}
 use Rattle.cht_core.specs.CauseCalls.{Way}
 use Rattle.cht_core.specs.Caused.{way_of, Caused, Hears, MayCause, Cause}
@@ -67,7 +65,7 @@ use Rattle.cht_run.specs.Covers.{MachinePassed}
 use Rattle.cht_run.specs.Seats.{Raw, Sits}
 use Rattle.cht_run.specs.declared.table.Cht.{Cht}
 use Rattle.cht_run.specs.History.{log_of, by_of, NoneBy, entries_by, told_by}
-use Rattle.cht_run.specs.Told.{adds, tells, drew, kids_after, given_after, Found, Told, WorkFound}
+use Rattle.cht_run.specs.Told.{adds, tells, drew, kids_after, given_after, Told, WorkFound}
 use Rattle.cht_run.proofs.ChainLengths.{alone_window}
 use Rattle.cht_run.proofs.Deeds.{step_is_sound}
 use Rattle.cht_run.proofs.Histories.{log-append, log_adds}

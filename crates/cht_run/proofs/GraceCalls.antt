@@ -1,5 +1,5 @@
 -- How the calls of graces end.
-use Rattle.std.proofs.Common.{◌≡◌, ℕ, ◌+◌, ◌<◌, ◌≤◌, List, [], ◌∷◌, ◌++◌, Option, Some, None, refl, sym, ap, subst, ◌∙◌, arith}
+use Rattle.std.proofs.Common.{◌≡◌, ℕ, ◌≤◌, List, [], ◌∷◌, ◌++◌, Option, Some, None, refl, sym, ap, subst, ◌∙◌, arith}
 use Rattle.intern_log.specs.declared.event.Event.{Event}
 use Rattle.intern_log.specs.declared.event.What.{What}
 use Rattle.intern_log.specs.declared.event.What.TheVariants as what
@@ -19,7 +19,7 @@ use Rattle.call_machine.specs.SoundMachine.{IsSoundOwn}
 use Rattle.call_machine.proofs.Machines.{left_law}
 use Rattle.cht_core.specs.declared.table.Table.{Table}
 use Rattle.cht_core.specs.Causes.{IsSpent, IsOpenBelow}
-use Rattle.cht_core.specs.Windows.{Somewhere, whats_by}
+use Rattle.cht_core.specs.Windows.{Somewhere, IsTold, whats_by}
 use Rattle.cht_run.specs.declared.graces.BeganGrace.{BeganGrace}
 use Rattle.cht_run.specs.declared.graces.BeganGrace.TheVariants as began
 use Rattle.cht_run.specs.declared.graces.Grace.{Grace}
@@ -31,13 +31,14 @@ use Rattle.cht_run.specs.Beginnings.{begins_at, grace_ended}
 use Rattle.cht_run.specs.Begins.{own_at, first_of, caller_in}
 use Rattle.cht_run.specs.Ended.{Ended, Only}
 use Rattle.cht_run.specs.Ends.{HasNothing}
-use Rattle.cht_run.specs.Graces.{counter_in, IsUnspent, IsRaised, IsPassed, IsGraceOf, BeginsGrace, PollsGrace}
+use Rattle.cht_run.specs.Graces.{counter_in, IsUnspent, IsRaised, IsPassed, IsOver, IsGraceOf, BeginsGrace, PollsGrace}
 use Rattle.cht_run.specs.History.{log_of}
 use Rattle.cht_run.specs.Runs.{Ran}
 use Rattle.cht_run.specs.Seats.{sight, history, seen, own_of as own_in, grace_of, IsOf}
 use Rattle.cht_run.proofs.Begun.{Ends, at, begun_ends}
 use Rattle.cht_run.proofs.Ended.{went_ended}
 use Rattle.cht_run.proofs.Counters.{counter_grows, raised_since}
+use Rattle.cht_run.proofs.GraceCloses.{passed_closes}
 use Rattle.cht_run.proofs.GracePolls.{HasPassed, PollEnds, poll_ends}
 use Rattle.cht_run.proofs.Histories.{log-append}
 
@@ -129,9 +130,17 @@ module _ (cht : Cht) (old new : Seat) (of : IsOf cht old) (grace : Grace) (has :
   grace_over state answered is =
       let (none, did, passed) = subst (λ x. PollEnds t old.number has.state.raised (seen old) window x l) answered polled in (
         leaves_nothing cht old new call.PollGrace a l of ran none,
-        ended cht old new call.PollGrace (m cht old new call.PollGrace a l of ran) of ran [] (λ seen window. (number : ℕ) → number < t.shape.seats → IsPassed t state.raised number (seen ++ window)) did
-            (subst (λ r. HasPassed t r t.shape.seats (seen old ++ window)) (ap (λ (g : Gracing). g.raised) (same_state state is)) passed),
+        ended cht old new call.PollGrace (m cht old new call.PollGrace a l of ran) of ran [] (λ seen window. IsOver t state.raised (seen ++ window)) did
+            (over (subst (λ r. HasPassed t r t.shape.seats (seen old ++ window)) (ap (λ (g : Gracing). g.raised) (same_state state is)) passed)),
       )
+    where
+      -- its seat has seen a log that was told event by event
+      told : IsTold t (seen old ++ window)
+      told = subst (λ (o : Origin). IsTold o.table (seen old ++ window)) of.origin
+          (subst (IsTold (sight old).origin.table) (ap log_of ran.went.history ∙ log-append (history old) ran.went.window) ran.went.sees.told)
+
+      over : HasPassed t state.raised t.shape.seats (seen old ++ window) → IsOver t state.raised (seen old ++ window)
+      over passed = (passed, passed_closes t state.raised (seen old ++ window) told passed)
 
   pub grace_pending : (number : ℕ) (left_grace : Grace) (state : Gracing) → a ≡ answer.PendingSeat number → l ≡ left.Grace left_grace.state → grace_of old ≡ Some state → PollsGrace t state old new (polled_as.Pending left_grace number)
   grace_pending number left_grace state answered leaves is =

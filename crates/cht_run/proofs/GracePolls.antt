@@ -8,7 +8,6 @@ use Rattle.table_shape.specs.declared.shape.Shape.{Shape}
 use Rattle.section_core.specs.Words.{waits_for}
 use Rattle.marked_word.specs.Number.{section_word}
 use Rattle.intern_log.specs.declared.event.Event.{Event}
-use Rattle.intern_log.specs.declared.event.What.{What}
 use Rattle.intern_log.specs.Now.{OpenSection}
 use Rattle.atomic_step.specs.declared.answer.Answer.{Answer}
 use Rattle.atomic_step.specs.declared.answer.Answer.TheVariants as answer

@@ -1,5 +1,5 @@
 -- Which handles a table has: each handle of which its log gives a hold was created, and one that was created is of one of its slots.
-use Rattle.std.proofs.Common.{◌≡◌, ◌⊎◌, inl, inr, ℕ, ◌+◌, ◌/◌, ◌<◌, ◌≤◌, ◌^◌, Bool, true, false, cond, ◌||◌, ◌&&◌, nat_lt, Option, length, List, [], ◌∷◌, ◌++◌, Some, refl, sym, ap, subst, ◌∙◌, arith, filter, count_by}
+use Rattle.std.proofs.Common.{◌≡◌, ◌⊎◌, inl, inr, ℕ, ◌+◌, ◌<◌, ◌≤◌, ◌^◌, Bool, true, false, cond, ◌||◌, ◌&&◌, nat_lt, Option, length, List, [], ◌∷◌, ◌++◌, refl, sym, ap, subst, ◌∙◌, arith, filter, count_by}
 use Rattle.std.specs.List.{list_any}
 use Rattle.std.proofs.lemmas.Bool.{ltb-true}
 use Rattle.std.proofs.lemmas.List.{append_assoc}
@@ -11,9 +11,9 @@ use Rattle.intern_log.specs.declared.event.Event.{Event}
 use Rattle.intern_log.specs.declared.event.Handle.{Handle}
 use Rattle.intern_log.specs.declared.event.What.{What}
 use Rattle.intern_log.specs.declared.event.What.TheVariants as what
-use Rattle.intern_log.specs.Log.{creates, map_of}
+use Rattle.intern_log.specs.Log.{creates}
 use Rattle.intern_log.specs.Now.{Phase, Vacant, Claimed, Linked, Unlinked, now_of}
-use Rattle.intern_log.specs.Own.{is_gain, is_visible, is_among, mine, held, losses}
+use Rattle.intern_log.specs.Own.{is_gain, is_visible, is_among, mine}
 use Rattle.intern_log.specs.TextMap.{HasHandle}
 use Rattle.intern_log.proofs.Handles.{handle_eq-Decides}
 use Rattle.intern_log.proofs.LawfulLaws.{texts-now_after}
@@ -23,8 +23,8 @@ use Rattle.cht_core.specs.declared.table.Table.{Table}
 use Rattle.cht_core.specs.Begins.{IsHeld, IsCreated}
 use Rattle.cht_core.specs.CauseCalls.{WasMade}
 use Rattle.cht_core.specs.Invariant.{Inv}
-use Rattle.cht_core.specs.Memory.{Memory, memory_of}
-use Rattle.cht_core.specs.Past.{Past, past_of, past_after, kind_of, MayAdd}
+use Rattle.cht_core.specs.Memory.{Memory}
+use Rattle.cht_core.specs.Past.{Past, past_of, kind_of, MayAdd}
 use Rattle.cht_core.specs.Slots.{claim_word, IsPast}
 use Rattle.cht_core.specs.View.{View}
 use Rattle.cht_core.specs.Windows.{IsTold, IsToldFrom}

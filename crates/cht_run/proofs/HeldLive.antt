@@ -1,5 +1,5 @@
 -- What a seat of a counted table holds is live.
-use Rattle.std.proofs.Common.{◌≡◌, ℕ, ◌≤◌, true, List, [], set, get_or, Option, Some, inl, inr, refl, sym, subst, arith}
+use Rattle.std.proofs.Common.{◌≡◌, ℕ, ◌≤◌, List, Option, Some, inl, inr, subst, arith}
 use Rattle.intern_log.specs.declared.event.Event.{Event}
 use Rattle.intern_log.specs.declared.event.Kind.TheVariants.{Counted}
 use Rattle.intern_log.specs.Now.{opening}

@@ -1,5 +1,5 @@
 -- Histories: what their parts say of the whole.
-use Rattle.std.proofs.Common.{◌≡◌, ◌≢◌, ℕ, ◌+◌, Bool, true, false, cond, ◌||◌, nat_eq, List, [], ◌∷◌, ◌++◌, length, map, Option, Some, None, ◌⊎◌, inl, inr, refl, sym, ap, subst, ◌∙◌, arith}
+use Rattle.std.proofs.Common.{◌≡◌, ℕ, ◌+◌, Bool, true, false, ◌||◌, nat_eq, List, [], ◌∷◌, ◌++◌, length, Option, Some, None, ◌⊎◌, inl, inr, refl, sym, ap, subst, ◌∙◌, arith}
 use Rattle.std.proofs.lemmas.Bool.{eq-eqb, eqb-true}
 use Rattle.std.proofs.lemmas.List.{append-nil, append_assoc}
 use Rattle.std.proofs.lemmas.List.Elements.{All-nil, All-cons, All-append, All-head, All-tail, All-weaker, filter_map-append}
@@ -16,7 +16,7 @@ use Rattle.cht_core.specs.Invariant.{events_of}
 use Rattle.cht_core.specs.State.{drawn_in}
 use Rattle.cht_run.specs.declared.sight.Entry.{Entry}
 use Rattle.cht_run.specs.declared.sight.Entry.TheVariants as entry
-use Rattle.cht_run.specs.History.{event_in, number_in, log_of, draws_of, by_of, NoneBy, is_drawn, IsOrderlyFrom, IsOrderly, IsNumbered, IsOut, AreOut, Follows}
+use Rattle.cht_run.specs.History.{event_in, number_in, log_of, draws_of, by_of, NoneBy, is_drawn, IsOrderlyFrom, IsOrderly, IsNumbered, IsOut, AreOut}
 use Rattle.cht_run.specs.Told.{tells, drew, adds, kids_after}
 
 -- THE LOG AND THE DRAWS

@@ -1,5 +1,5 @@
 -- What a seat holds after a call that took a hold or made an entry.
-use Rattle.std.proofs.Common.{◌≡◌, ℕ, ◌+◌, ◌-◌, ◌≤◌, Bool, true, false, cond, ◌&&◌, ◌||◌, List, [], ◌∷◌, ◌++◌, map, filter, count_by, refl, sym, ap, subst, ◌∙◌, arith}
+use Rattle.std.proofs.Common.{◌≡◌, ℕ, ◌+◌, Bool, true, false, cond, ◌&&◌, ◌||◌, List, [], ◌∷◌, ◌++◌, map, filter, count_by, refl, sym, ap, ◌∙◌, arith}
 use Rattle.std.proofs.lemmas.List.Folds.{list_any-append}
 use Rattle.std.proofs.lemmas.List.Sums.{sum_by-append}
 use Rattle.std.specs.List.{list_any}
@@ -24,7 +24,7 @@ use Rattle.cht_run.specs.declared.sight.Entry.{Entry}
 use Rattle.cht_run.specs.declared.sight.Entry.TheVariants as entry
 use Rattle.cht_run.specs.declared.table.Cht.{Cht}
 use Rattle.cht_run.specs.Begins.{HasLedger}
-use Rattle.cht_run.specs.History.{log_of, by_of, entries_by, told_by}
+use Rattle.cht_run.specs.History.{log_of, entries_by, told_by}
 use Rattle.cht_run.specs.Seats.{sight, history, seen, numbers}
 use Rattle.cht_run.specs.Walked.{Walked}
 use Rattle.cht_run.proofs.Histories.{log-append}

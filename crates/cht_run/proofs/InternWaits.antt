@@ -1,12 +1,9 @@
 -- What an intern that waits comes to.
-use Rattle.std.proofs.Common.{◌≡◌, ℕ, List}
+use Rattle.std.proofs.Common.{ℕ, List}
 use Rattle.intern_log.specs.declared.event.Handle.{Handle}
-use Rattle.atomic_step.specs.declared.answer.Answer.{Answer}
 use Rattle.atomic_step.specs.declared.answer.Answer.TheVariants as answer
 use Rattle.call_machine.specs.declared.stage.Goal.TheVariants.{InternWait}
-use Rattle.cht_run.specs.declared.intern_wait.Interned.{Interned}
 use Rattle.cht_run.specs.declared.intern_wait.Interned.TheVariants as interned
-use Rattle.cht_run.specs.declared.intern_wait.InternedWeak.{InternedWeak}
 use Rattle.cht_run.specs.declared.intern_wait.InternedWeak.TheVariants as weak
 use Rattle.cht_run.specs.declared.seat.Seat.{Seat}
 use Rattle.cht_run.specs.declared.table.Cht.{Cht}

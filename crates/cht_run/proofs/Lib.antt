@@ -51,6 +51,7 @@ pub mod Rests
 pub mod Begun
 pub mod Counters
 pub mod GracePolls
+pub mod GraceCloses
 pub mod GraceCalls
 pub mod WorkCalls
 pub mod PollAnswers
@@ -58,6 +59,7 @@ pub mod WorkRuns
 pub mod FullPasses
 pub mod PollCalls
 pub mod Waited
+pub mod SweepUnlinks
 pub mod SweepRuns
 pub mod InternWaits
 pub mod Retries

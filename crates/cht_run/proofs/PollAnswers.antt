@@ -1,10 +1,9 @@
 -- What a poll of a work may answer: that it is done, or that a seat or a bucket is waited for.
-use Rattle.std.proofs.Common.{◌≡◌, ℕ, ◌+◌, ◌/◌, ◌^◌, ◌==◌, nat_le, nat_lt, List, [], ◌∷◌, length, Option, Some, None, sym, subst, inl, inr}
+use Rattle.std.proofs.Common.{ℕ, ◌+◌, ◌/◌, ◌^◌, ◌==◌, nat_le, nat_lt, List, [], ◌∷◌, length, Option, Some, None, sym, subst, inl, inr}
 use Rattle.marked_word.specs.Head.{is_locked, first_of}
 use Rattle.table_shape.specs.declared.shape.Shape.{Shape}
 use Rattle.atomic_step.specs.declared.answer.Answer.{Answer}
 use Rattle.atomic_step.specs.declared.answer.Answer.TheVariants as answer
-use Rattle.atomic_step.specs.Run.{after_words}
 use Rattle.atomic_step.specs.Turn.{next_in}
 use Rattle.atomic_step.proofs.Choices.{either_way}
 use Rattle.call_machine.specs.declared.caller.Caller.{Caller}

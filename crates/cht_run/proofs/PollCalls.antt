@@ -1,20 +1,13 @@
 -- How the poll of a work ends.
-use Rattle.std.proofs.Common.{◌≡◌, ℕ, ◌^◌, ◌≤◌, Bool, true, false, cond, List, [], Option, Some, None, inl, inr, refl, sym, ap, subst, ◌∙◌, nat_le}
-use Rattle.std.specs.Prelude.{is_some}
+use Rattle.std.proofs.Common.{◌≡◌, ℕ, ◌^◌, ◌≤◌, List, [], Some, None, inr, refl, sym, ap, subst, ◌∙◌}
 use Rattle.std.proofs.lemmas.Bool.{leb-true}
-use Rattle.std.proofs.lemmas.List.{append-nil}
-use Rattle.table_shape.specs.declared.shape.Shape.{Shape}
 use Rattle.intern_log.specs.declared.event.Event.{Event}
 use Rattle.intern_log.specs.declared.event.What.{What}
 use Rattle.atomic_step.specs.declared.answer.Answer.{Answer}
 use Rattle.atomic_step.specs.declared.answer.Answer.TheVariants as answer
 use Rattle.atomic_step.specs.declared.answer.Worked.{Worked}
-use Rattle.atomic_step.specs.declared.plan.Plan.TheVariants as plan
-use Rattle.atomic_step.specs.declared.step.Step.{Step}
 use Rattle.atomic_step.specs.Run.{AreFitting, after_words, events_of_words}
-use Rattle.atomic_step.specs.Turn.{plan_in}
 use Rattle.call_machine.specs.declared.call.Call.TheVariants as call
-use Rattle.call_machine.specs.declared.caller.Caller.{Caller}
 use Rattle.call_machine.specs.declared.clean.CleanAlong.{CleanAlong}
 use Rattle.call_machine.specs.declared.clean.CleanStage.{CleanStage}
 use Rattle.call_machine.specs.declared.clean.CleanStage.TheVariants as clean_at
@@ -29,18 +22,14 @@ use Rattle.call_machine.specs.declared.poll.Polling.{Polling}
 use Rattle.call_machine.specs.declared.work.Work.{Work as Working}
 use Rattle.call_machine.specs.declared.work.Work.TheVariants as work
 use Rattle.call_machine.specs.Clean as cleans
-use Rattle.call_machine.specs.Grace.{held_back}
 use Rattle.call_machine.specs.Resize as resizes
-use Rattle.call_machine.specs.Machine.{caller_of, started, plan_of, own_of, begun_work_poll, number_of}
-use Rattle.call_machine.specs.Poll.{state_of, begun_poll, works, work_left, polling}
+use Rattle.call_machine.specs.Machine.{own_of, begun_work_poll}
+use Rattle.call_machine.specs.Poll.{state_of, begun_poll, work_left, polling}
 use Rattle.call_machine.specs.Polls.{polled_on}
-use Rattle.call_machine.specs.SoundMachine.{IsSoundOwn, MayStart, IsSoundMachine}
 use Rattle.call_machine.specs.WholeMachine.{machines}
 use Rattle.call_machine.specs.Work.{resumes, IsSoundWork}
-use Rattle.call_machine.proofs.Machines.{plan_is}
 use Rattle.cht_core.specs.declared.table.Table.{Table}
 use Rattle.cht_core.specs.Causes.{PollEnds}
-use Rattle.cht_core.specs.Caused.{way_of, Cause}
 use Rattle.cht_core.specs.Windows.{whats_by}
 use Rattle.cht_run.specs.declared.seat.Seat.{Seat}
 use Rattle.cht_run.specs.declared.sight.Origin.{Origin}
@@ -50,22 +39,19 @@ use Rattle.cht_run.specs.declared.polls.PollEnd.TheVariants as end_at
 use Rattle.cht_run.specs.declared.works.Polled.TheVariants as polls
 use Rattle.cht_run.specs.declared.work.Work.{Work}
 use Rattle.cht_run.specs.Begins.{first_of, caller_in}
-use Rattle.cht_run.specs.Ended.{Ended, Only}
-use Rattle.cht_run.specs.Ends.{HasNothing}
+use Rattle.cht_run.specs.Ended.{Only}
 use Rattle.cht_run.specs.History.{log_of}
 use Rattle.cht_run.specs.Pending.{MayPend, IsHeld, CleanPends, ResizePends, IsCleanHeld, IsResizeHeld}
 use Rattle.cht_run.specs.Runs.{Ran}
 use Rattle.cht_run.specs.Underway.{polled, answer_at}
-use Rattle.cht_run.specs.Seats.{sight, history, seen, work_of, own_of as own_in, IsOf}
+use Rattle.cht_run.specs.Seats.{sight, seen, work_of, own_of as own_in, IsOf}
 use Rattle.cht_run.specs.Told.{PollFound, WorkFound}
 use Rattle.cht_run.specs.Works.{HasFinished, IsWorkOf, Runs, Leaves, PollsWork}
 use Rattle.cht_run.proofs.FullPasses.{runs_with_few}
 use Rattle.cht_run.proofs.Goes.{went_answered}
 use Rattle.cht_run.proofs.Following.{no_step}
 use Rattle.cht_run.proofs.GraceCalls.{ended, own_left}
-use Rattle.cht_run.proofs.PollAnswers.{AnswersSo, IsOfPoll}
 use Rattle.cht_run.proofs.WorkRuns.{PollRan, poll_ran, finds_own, runs_none}
-use Rattle.cht_run.proofs.Rests.{own_number}
 
 module _ (cht : Cht) (old new : Seat) (of : IsOf cht old) (state state' : Working) (end : PollEnd) (unfinished : work_of old ≡ Some state) (goes : (resumes state).1 ≡ None)
     (ran : Ran (sight old) call.PollWork (sight new) (polled (sight old) (state', Some (answer_at end)))) where
@@ -139,9 +125,9 @@ module _ (cht : Cht) (old new : Seat) (of : IsOf cht old) (state state' : Workin
         ),
       )
     where
-      finished : (w : Working) → PollFound t (seen new) new.number w (Some (answer.Done worked)) → HasFinished t w new
+      finished : (w : Working) → PollFound t (seen new) new.number w (Some (answer.Done worked)) → HasFinished t w worked new
       finished (work.Clean c) found = found
-      finished (work.Resize r) found = tt
+      finished (work.Resize r) found = found
 
   -- where it waits, the work stays
   pub poll_waits : (left_work : Work) → left_work.state ≡ state' → work_left state' (Some a) ≡ Some state' → polled_on resumes (state', Some a) ≡ resumes state' → Leaves t state old new left_work a

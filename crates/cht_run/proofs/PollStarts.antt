@@ -1,7 +1,6 @@
 -- The first step of the poll of a work.
-use Rattle.std.proofs.Common.{◌≡◌, ℕ, ◌<◌, ◌^◌, Option, Some, None, true, refl, sym, ap, subst, ◌∙◌}
+use Rattle.std.proofs.Common.{◌≡◌, ℕ, Option, Some, None, refl, sym, ap, subst, ◌∙◌}
 use Rattle.table_shape.specs.declared.shape.Shape.{Shape}
-use Rattle.table_shape.specs.Shape.{IsSound}
 use Rattle.atomic_step.specs.declared.answer.Answer.{Answer}
 use Rattle.atomic_step.specs.declared.plan.Plan.{Plan}
 use Rattle.atomic_step.specs.declared.plan.Plan.TheVariants as plan
@@ -25,7 +24,7 @@ use Rattle.call_machine.specs.Work.{work_row, resumes, IsSoundWork}
 use Rattle.cht_run.specs.declared.sight.Origin.{Origin}
 use Rattle.cht_run.specs.declared.sight.Sight.{Sight}
 use Rattle.cht_run.specs.declared.table.Cht.{Cht}
-use Rattle.cht_run.specs.Begins.{own_at, first_of, caller_in, MayCall, GoesFirst}
+use Rattle.cht_run.specs.Begins.{first_of, caller_in, GoesFirst}
 use Rattle.cht_run.specs.Cleans.{anew}
 use Rattle.cht_run.specs.Pending.{MayPend, IsHeld}
 use Rattle.cht_run.specs.Polls.{MayPoll}

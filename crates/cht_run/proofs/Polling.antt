@@ -20,7 +20,6 @@ use Rattle.cht_run.specs.declared.sight.Origin.{Origin}
 use Rattle.cht_run.specs.declared.sight.Sight.{Sight}
 use Rattle.cht_run.specs.declared.table.Cht.{Cht}
 use Rattle.cht_run.specs.Begins.{own_at, first_of}
-use Rattle.cht_run.specs.Calls.{Went}
 use Rattle.cht_run.specs.Runs.{Ran, IsPolling}
 use Rattle.cht_run.specs.Seats.{Raw, Sits}
 use Rattle.cht_run.specs.Told.{WorkFound}

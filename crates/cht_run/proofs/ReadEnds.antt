@@ -1,5 +1,5 @@
 -- A reading of a text begins, and comes to its end.
-use Rattle.std.proofs.Common.{◌≡◌, ℕ, ◌<◌, true, List, [], ◌∷◌, ◌++◌, Some, refl, sym, ap, subst, ◌∙◌}
+use Rattle.std.proofs.Common.{◌≡◌, ℕ, ◌<◌, true, List, [], ◌++◌, refl, sym, ap, subst, ◌∙◌}
 use Rattle.std.proofs.lemmas.List.{append-nil}
 use Rattle.intern_log.specs.declared.event.Event.{Event}
 use Rattle.intern_log.specs.declared.event.Handle.{Handle}
@@ -11,12 +11,9 @@ use Rattle.atomic_step.specs.declared.step.Step.{Step}
 use Rattle.atomic_step.specs.declared.step.Step.TheVariants as step
 use Rattle.atomic_step.specs.SoundStep.{IsSoundStep}
 use Rattle.call_machine.specs.declared.call.Call.TheVariants as call
-use Rattle.call_machine.specs.declared.enter.EnterStage.TheVariants as enter
 use Rattle.call_machine.specs.declared.machine.Own.{Own}
-use Rattle.call_machine.specs.declared.read.ReadStage.TheVariants as read
 use Rattle.call_machine.specs.declared.stage.Along.{Along}
 use Rattle.call_machine.specs.declared.stage.Asked.{Asked}
-use Rattle.call_machine.specs.declared.stage.CallStage.{CallStage}
 use Rattle.call_machine.specs.declared.stage.CallStage.TheVariants as stage
 use Rattle.call_machine.specs.declared.stage.Request.{Request}
 use Rattle.call_machine.specs.Machine.{started, plan_of}
@@ -34,8 +31,8 @@ use Rattle.cht_run.specs.Changes.{Made}
 use Rattle.cht_run.specs.Ended.{Ended, Only}
 use Rattle.cht_run.specs.History.{log_of, is_known, HasHandles}
 use Rattle.cht_run.specs.Reads.{sections_of, WhyReads, done_by, text_answer, HoldsText}
-use Rattle.cht_run.specs.Seats.{Raw, Sits, sight, seen}
-use Rattle.cht_run.specs.Starts.{asks, sets_out, IsAsked, Starts}
+use Rattle.cht_run.specs.Seats.{Raw, Sits, sight}
+use Rattle.cht_run.specs.Starts.{sets_out, IsAsked, Starts}
 use Rattle.cht_run.proofs.ChangeStarts.{asking, asking_is}
 use Rattle.cht_run.proofs.Ended.{ends, ended}
 use Rattle.cht_run.proofs.Handles.{held_is_known, created_is_known, known_was_made}

@@ -1,26 +1,21 @@
 -- What a seat knows of the text that it reads: over the steps of others, as its call begins, and over its own steps; and what its loads say.
-use Rattle.std.proofs.Common.{◌≡◌, ℕ, ◌+◌, ◌<◌, ◌≤◌, Bool, true, false, cond, nat_lt, List, [], ◌∷◌, ◌++◌, length, Option, Some, None, inl, inr, refl, sym, ap, subst, ◌∙◌, arith}
-use Rattle.text_words.specs.Words.{words_of, word_at}
-use Rattle.marked_word.specs.Meta.{length_in, meta_word}
+use Rattle.std.proofs.Common.{◌≡◌, ℕ, ◌+◌, ◌<◌, Bool, true, false, cond, nat_lt, List, [], ◌++◌, length, Option, Some, None, inl, inr, refl, sym, ap, subst, ◌∙◌}
+use Rattle.text_words.specs.Words.{words_of}
+use Rattle.marked_word.specs.Meta.{length_in}
 use Rattle.table_shape.specs.declared.place.Place.TheVariants as place
-use Rattle.table_shape.specs.declared.shape.Shape.{Shape}
 use Rattle.intern_log.specs.declared.event.Event.{Event}
 use Rattle.intern_log.specs.declared.event.Handle.{Handle}
 use Rattle.intern_log.specs.declared.event.Kind.{Kind}
 use Rattle.intern_log.specs.declared.event.Kind.TheVariants.{Counted, Weak}
-use Rattle.intern_log.specs.Log.{map_of}
 use Rattle.intern_log.specs.Now.{Linked, opening}
 use Rattle.intern_log.specs.Sections.{IsCreatedAs}
 use Rattle.intern_log.specs.TextMap.{HasHandle}
 use Rattle.atomic_step.specs.Count.{is_live}
 use Rattle.atomic_step.specs.Step.{access_of}
 use Rattle.atomic_step.specs.declared.access.Deed.TheVariants as deed
-use Rattle.atomic_step.specs.declared.answer.Answer.{Answer}
 use Rattle.atomic_step.specs.declared.answer.Answer.TheVariants as answer
 use Rattle.atomic_step.specs.declared.plan.Plan.TheVariants as plan
 use Rattle.atomic_step.specs.declared.step.Step.{Step}
-use Rattle.atomic_step.specs.declared.step.Step.TheVariants as step
-use Rattle.call_machine.specs.declared.begin.BeginMachine.{BeginMachine}
 use Rattle.call_machine.specs.declared.call.Call.{Call}
 use Rattle.call_machine.specs.declared.call.Call.TheVariants as call
 use Rattle.call_machine.specs.declared.caller.Caller.{Caller}
@@ -41,14 +36,13 @@ use Rattle.call_machine.specs.declared.work.Work.{Work}
 use Rattle.call_machine.specs.BeginCall.{begins, begun_walk, no_handle, too_long}
 use Rattle.call_machine.specs.Calls.{plan_at, next_at}
 use Rattle.call_machine.specs.Leave.{leaves_with}
-use Rattle.call_machine.specs.Machine.{caller_of, starts, started, beside, begun_grace_poll, begun_work_poll, plan_of, got_of, IsSameMachine}
+use Rattle.call_machine.specs.Machine.{starts, beside, begun_grace_poll, begun_work_poll, plan_of, got_of}
 use Rattle.call_machine.specs.Read.{read_row, read_all, reads_from}
-use Rattle.call_machine.specs.Sought.{is_too_long, meta_of}
-use Rattle.call_machine.proofs.Machines.{plan_is, got_is, same_law}
+use Rattle.call_machine.specs.Sought.{is_too_long}
+use Rattle.call_machine.proofs.Machines.{plan_is, got_is}
 use Rattle.cht_core.specs.declared.table.Table.{Table}
-use Rattle.cht_core.specs.Causes.{now_in}
 use Rattle.cht_core.specs.Flow.{Flow}
-use Rattle.cht_core.specs.KnowsCall.{HasWords, KnowsRead, KnowsStage, Reading}
+use Rattle.cht_core.specs.KnowsCall.{KnowsRead, KnowsStage, Reading}
 use Rattle.cht_core.specs.Memory.{Memory, IsMade, found}
 use Rattle.cht_core.specs.Past.{Past, past_of}
 use Rattle.cht_core.specs.Rely.{Grows}

@@ -1,16 +1,12 @@
 -- A seat that is alone reads the words of the table: they are those that it has seen, and they show its log.
-use Rattle.std.proofs.Common.{◌≡◌, ℕ, ◌^◌, ◌<◌, ◌≤◌, true, List, [], ◌++◌, get_or, Option, Some, None, refl, sym, ap, subst, ◌∙◌}
+use Rattle.std.proofs.Common.{◌≡◌, ℕ, true, List, [], get_or, Option, Some, None, refl, sym, ap, subst, ◌∙◌}
 use Rattle.std.specs.Option.{unwrap_or, option_map}
 use Rattle.std.specs.Prelude.{is_some}
 use Rattle.table_shape.specs.declared.place.Place.{Place}
-use Rattle.table_shape.specs.declared.place.Place.TheVariants as place
 use Rattle.table_shape.specs.Place.{index_of, IsInside}
 use Rattle.intern_log.specs.declared.event.Event.{Event}
-use Rattle.intern_log.specs.Now.{Resizing, owner_of}
-use Rattle.atomic_step.specs.Table.{IsWordAt}
+use Rattle.intern_log.specs.Now.{owner_of}
 use Rattle.call_machine.specs.declared.machine.Own.{Own}
-use Rattle.call_machine.specs.declared.work.Work.{Work}
-use Rattle.cht_core.specs.declared.seat.Seat.{Seat as Doing}
 use Rattle.cht_core.specs.declared.seat.Seat.TheVariants as doing
 use Rattle.cht_core.specs.declared.table.Table.{Table}
 use Rattle.cht_core.specs.Begins as core
@@ -32,9 +28,9 @@ use Rattle.cht_run.specs.Begins.{own_at, is_resting}
 use Rattle.cht_run.specs.Ends.{IsAlone, HasNothing, Stays}
 use Rattle.cht_run.specs.History.{log_of}
 use Rattle.cht_run.specs.Looks.{Looked}
-use Rattle.cht_run.specs.Rule.{view_of, is_seat}
-use Rattle.cht_run.specs.Seats.{sight, history, seen, numbers, kids, IsOf}
-use Rattle.cht_run.specs.Tallies.{snapshot, memory_in, now_for, IsShown, Reads, ReadsOn}
+use Rattle.cht_run.specs.Rule.{view_of}
+use Rattle.cht_run.specs.Seats.{sight, history, seen, IsOf}
+use Rattle.cht_run.specs.Tallies.{snapshot, memory_in, IsShown, Reads, ReadsOn}
 use Rattle.cht_run.proofs.Joining.{Rested, rested}
 use Rattle.cht_run.proofs.Loading.{looked_alone}
 

@@ -1,5 +1,5 @@
 -- A table that was made anew meets the rule, with the seat that comes from the table before.
-use Rattle.std.proofs.Common.{◌≡◌, ◌≢◌, ℕ, zero, suc, ◌+◌, ◌^◌, ◌*◌, ◌%◌, ◌<◌, ◌≤◌, Bool, true, false, ◌||◌, List, [], ◌∷◌, ◌++◌, length, get_or, Option, Some, None, inl, inr, refl, sym, ap, subst, ◌∙◌, arith}
+use Rattle.std.proofs.Common.{◌≡◌, ℕ, zero, suc, ◌+◌, ◌*◌, ◌%◌, ◌<◌, ◌≤◌, Bool, true, false, ◌||◌, List, [], ◌∷◌, ◌++◌, length, get_or, Some, None, inl, inr, refl, sym, ap, subst, ◌∙◌, arith}
 use Rattle.std.proofs.lemmas.Bool.{cases_eq}
 use Rattle.std.proofs.lemmas.List.{append-nil, get_or_read}
 use Rattle.std.proofs.lemmas.List.Elements.{All-nil, All-cons, All-append}
@@ -15,7 +15,6 @@ use Rattle.intern_log.specs.declared.event.What.TheVariants as what
 use Rattle.intern_log.specs.Now.{Now, now_of}
 use Rattle.intern_log.specs.Own.{is_among, is_gain}
 use Rattle.call_machine.specs.declared.machine.Own.{Own}
-use Rattle.cht_core.specs.declared.seat.Seat.TheVariants as doing
 use Rattle.cht_core.specs.Anew.{HaveRoom, made_anew}
 use Rattle.cht_core.specs.Begins as core
 use Rattle.cht_core.specs.Invariant.{Inv}
@@ -31,14 +30,13 @@ use Rattle.cht_core.proofs.RehashKeeps.{rehash_keeps}
 use Rattle.cht_core.proofs.RehashQuiet.{has_nothing}
 use Rattle.cht_core.proofs.RehashStays.{says_the_same}
 use Rattle.cht_core.proofs.StateWords.{memory_at}
-use Rattle.cht_run.specs.declared.sight.Earlier.{Earlier}
 use Rattle.cht_run.specs.declared.sight.Entry.{Entry}
 use Rattle.cht_run.specs.declared.sight.Origin.{Origin}
 use Rattle.cht_run.specs.declared.sight.Sight.{Sight}
 use Rattle.cht_run.specs.Begins.{own_at}
 use Rattle.cht_run.specs.Heirs.{legacy_of, rehash_of, heir_of, MayRemake}
-use Rattle.cht_run.specs.History.{log_of, draws_of, by_of, is_drawn, is_known, HasHandles, NoneBy, IsOut, AreOut, IsOrderly, IsNumbered, Follows}
-use Rattle.cht_run.specs.Rule.{view_of, is_seat, IsPart, Fits, CountsDraws, Kept}
+use Rattle.cht_run.specs.History.{log_of, draws_of, by_of, is_drawn, is_known, HasHandles, IsOut, AreOut, IsNumbered}
+use Rattle.cht_run.specs.Rule.{view_of, IsPart, Fits, CountsDraws, Kept}
 use Rattle.cht_run.proofs.Histories.{log-append, draws-append, drawn_still, among_here, orderly_append}
 use Rattle.cht_run.proofs.Joining.{Rested, rested}
 use Rattle.cht_run.proofs.Loading.{only_seat, none_since}

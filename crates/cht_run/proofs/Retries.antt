@@ -12,7 +12,6 @@ use Rattle.intern_log.proofs.Logs.{mine-append}
 use Rattle.cht_core.specs.Begins.{IsHeld}
 use Rattle.cht_core.specs.CauseCalls.{IsAbsent, HasCount, AreOfCall}
 use Rattle.cht_core.specs.declared.table.Table.{Table}
-use Rattle.cht_core.specs.Windows.{Somewhere, whats_by}
 use Rattle.cht_run.specs.declared.change.TryDrop.TheVariants as drops
 use Rattle.cht_run.specs.declared.change.TryPermanent.TheVariants as stays
 use Rattle.cht_run.specs.declared.lookup.TryLookup.TheVariants as try_lookup

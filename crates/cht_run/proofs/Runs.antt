@@ -1,5 +1,5 @@
 -- A call that is run by its machine goes on word by word.
-use Rattle.std.proofs.Common.{◌≡◌, ◌≢◌, ℕ, ◌-◌, ◌^◌, ◌<◌, true, List, [], ◌∷◌, ◌++◌, Option, Some, None, refl, sym, ap, subst, ◌∙◌}
+use Rattle.std.proofs.Common.{◌≡◌, ◌≢◌, ℕ, ◌^◌, ◌<◌, true, List, [], ◌∷◌, ◌++◌, Option, Some, None, refl, sym, ap, subst, ◌∙◌}
 use Rattle.std.proofs.lemmas.List.{append-nil, append_assoc, append_cancel_left}
 use Rattle.intern_log.specs.declared.event.Event.{Event}
 use Rattle.intern_log.specs.Own.{is_among}
@@ -29,7 +29,7 @@ use Rattle.call_machine.specs.WholeMachine.{machines}
 use Rattle.call_machine.proofs.Machines.{plan_is, same_law}
 use Rattle.cht_core.specs.declared.seat.Seat.TheVariants as doing
 use Rattle.cht_core.specs.declared.table.Table.{Table}
-use Rattle.cht_core.specs.Causes.{PlanSays}
+use Rattle.cht_core.specs.Causes.{PlanSays, now_in}
 use Rattle.cht_core.specs.Caused.{MayCause}
 use Rattle.cht_core.specs.Flow.{Flow}
 use Rattle.cht_core.specs.Invariant.{events_of}
@@ -51,6 +51,7 @@ use Rattle.cht_run.specs.History.{log_of, NoneBy}
 use Rattle.cht_run.specs.Runs.{CanStand, SaysAt, Finds, Ran}
 use Rattle.cht_run.specs.Seats.{Raw, Sits}
 use Rattle.cht_run.specs.Told.{adds, Told as WasTold}
+use Rattle.cht_run.specs.Unlinks.{MachineUnlinks}
 use Rattle.cht_run.proofs.Goes.{whats_none, went_on, went_first}
 use Rattle.cht_run.proofs.Histories.{log-append, log_adds}
 
@@ -132,12 +133,13 @@ finds_more t i m (x ∷ words) word seen window between finds none says =
 
 -- what the word says, of the machine that found it
 says_at : (t : Table) (m n : Machine) (s : Step) (word : ℕ) (log log' : List Event) (f : Flow) → n ≡ m → plan_of m ≡ plan.Step s → log ≡ log' → WordSays t (past_of t.shape.min_level log) f s word →
-    IsWordAt t.shape (access_of s).place word → SaysAt t n word log'
-says_at t m n s word log log' f same planned is says stands =
+    IsWordAt t.shape (access_of s).place word → MachineUnlinks (now_in t log) m → SaysAt t n word log'
+says_at t m n s word log log' f same planned is says stands unlinks =
     let planned_so = sym (ap plan_of same ∙ planned) in (
       f,
       subst (λ l. PlanSays t (past_of t.shape.min_level l) f (plan_of n) word) is (subst (λ p. PlanSays t (past_of t.shape.min_level log) f p word) planned_so says),
       subst (λ p. CanStand t.shape p word) planned_so stands,
+      subst (λ l. MachineUnlinks (now_in t l) n) is (subst (MachineUnlinks (now_in t log)) (sym same) unlinks),
     )
 
 -- a call that was led to a machine finds one more word
@@ -163,7 +165,7 @@ module _ (b v w : Sight) (m n : Machine) (s : Step) (word : ℕ) (words : List �
   one_more : Finds t b.number n words (log_of b.history) (log_of window) → Finds t b.number n (words ++ word ∷ []) (log_of b.history) (log_of (window ++ (told.between ++ adds t.shape v.number m s word)))
   one_more finds = subst (Finds t b.number n (words ++ word ∷ []) (log_of b.history)) (ap (λ (x : Machine). log_of window ++ (since ++ events_of b.number (event_of x word))) leads ∙ window_is)
       (finds_more t b.number n words word (log_of b.history) (log_of window) since finds none_by
-      (says_at t m (after_words machines n words) s word (log_of (v.history ++ told.between)) (log_of b.history ++ (log_of window ++ since)) told.found.flow leads planned before_is told.found.says told.found.stands))
+      (says_at t m (after_words machines n words) s word (log_of (v.history ++ told.between)) (log_of b.history ++ (log_of window ++ since)) told.found.flow leads planned before_is told.found.says told.found.stands told.found.unlinks))
 
   one_more_fits : AreFitting machines n words → AreFitting machines n (words ++ word ∷ [])
   one_more_fits fitting = fitting_more machines n words word fitting (subst (λ (x : Machine). (word < 2 ^ 64) × FitsMachine x word) (sym leads) (told.found.small, told.found.fits))

@@ -1,24 +1,22 @@
 -- A step of any kind keeps the rule, and tells its seat what it found.
-use Rattle.std.proofs.Common.{◌≡◌, ◌≢◌, ◌⊎◌, ⊎_elim, ℕ, ◌+◌, ◌%◌, ◌^◌, ◌<◌, ◌≤◌, Bool, true, false, cond, ◌||◌, nat_eq, nat_lt, List, [], ◌∷◌, ◌++◌, length, set, get_or, Option, Some, None, inl, inr, refl, sym, ap, subst, ◌∙◌, arith}
-use Rattle.std.proofs.lemmas.Bool.{cases_eq, ltb-true, ltb-false, eq-eqb, eqb-true, ne_eqb}
+use Rattle.std.proofs.Common.{◌≡◌, ◌≢◌, ◌⊎◌, ⊎_elim, ℕ, ◌+◌, ◌%◌, ◌^◌, ◌<◌, ◌≤◌, Bool, true, false, cond, ◌||◌, nat_eq, nat_lt, List, [], ◌∷◌, ◌++◌, length, set, Option, Some, None, inl, inr, refl, sym, ap, subst, ◌∙◌, arith}
+use Rattle.std.proofs.lemmas.Bool.{cases_eq, ltb-true, ltb-false, eqb-true, ne_eqb}
 use Rattle.std.proofs.lemmas.List.{append-nil, append_assoc, length-set, length-append}
 use Rattle.std.proofs.lemmas.List.Elements.{All-nil}
 use Rattle.std.specs.Option.{option_map, option_to_list}
 use mathlib.Core.Option.{some, some-injective}
 use lib.ListN.{get_elem?}
-use Rattle.atomic_table.specs.Table.{State, Me, keeps, stepped, Allows}
-use Rattle.atomic_table.proofs.Lists.{at_set, set_here}
+use Rattle.atomic_table.specs.Table.{State}
+use Rattle.atomic_table.proofs.Lists.{at_set}
 use Rattle.table_shape.specs.declared.place.Place.TheVariants as place
 use Rattle.table_shape.specs.declared.shape.Shape.{Shape}
-use Rattle.table_shape.specs.Place.{index_of, IsInside}
-use Rattle.table_shape.proofs.Places.{index_within}
+use Rattle.table_shape.specs.Place.{index_of}
 use Rattle.intern_log.specs.declared.event.Event.{Event}
 use Rattle.intern_log.specs.declared.event.What.{What}
-use Rattle.intern_log.specs.Now.{Now, Resizing, with_at, now_of, owner_of}
+use Rattle.intern_log.specs.Now.{Resizing, with_at, now_of, owner_of}
 use Rattle.intern_log.specs.Own.{is_among}
 use Rattle.atomic_step.specs.declared.access.Deed.{Deed}
 use Rattle.atomic_step.specs.declared.access.Deed.TheVariants as deed
-use Rattle.atomic_step.specs.declared.plan.Plan.TheVariants as plan
 use Rattle.atomic_step.specs.declared.step.Edge.TheVariants as edge
 use Rattle.atomic_step.specs.declared.step.Step.{Step}
 use Rattle.atomic_step.specs.declared.step.Step.TheVariants as step
@@ -32,7 +30,7 @@ use Rattle.call_machine.specs.declared.machine.Machine.{Machine}
 use Rattle.call_machine.specs.declared.machine.Machine.TheVariants as machine
 use Rattle.call_machine.specs.declared.machine.Own.{Own}
 use Rattle.call_machine.specs.Machine.{plan_of, got_of, event_of, shape_of, text_of, passed_of, IsSameMachine}
-use Rattle.call_machine.specs.SoundMachine.{IsSoundMachine, FitsMachine}
+use Rattle.call_machine.specs.SoundMachine.{FitsMachine}
 use Rattle.call_machine.specs.WholeMachine.{has_lock}
 use Rattle.call_machine.proofs.Machines.{step_law, same_law}
 use Rattle.cht_core.specs.declared.seat.Seat.{Seat}
@@ -49,7 +47,7 @@ use Rattle.cht_core.specs.Owes.{Owes, IsAllOf}
 use Rattle.cht_core.specs.Parts.{call_of}
 use Rattle.cht_core.specs.Past.{Past, past_of, MayTell, kind_of}
 use Rattle.cht_core.specs.State.{drawn_in, HasResting}
-use Rattle.cht_core.specs.View.{View, IsOfSeat, Knows, KnowsMachine, load_after, passed_after, view_after, seed_in}
+use Rattle.cht_core.specs.View.{View, IsOfSeat, Knows, KnowsMachine, view_after, seed_in}
 use Rattle.cht_core.specs.Windows.{IsTold}
 use Rattle.cht_core.proofs.Basics.{with_here, with_other}
 use Rattle.cht_core.proofs.CauseHeaded.{headed_waits}
@@ -78,7 +76,8 @@ use Rattle.cht_run.proofs.Covering.{machine_covers, machine_ends}
 use Rattle.cht_run.proofs.FoundOut.{work_found}
 use Rattle.cht_run.proofs.Handles.{has_handles}
 use Rattle.cht_run.proofs.ReadKept.{reads_waits, reads_steps, reads_say}
-use Rattle.cht_run.proofs.Histories.{among_append, among_either, log_more, draws_more, drawn_still, among_here, among_left, among_right, none_adds, none_append, none_by_none, none_undrawn, orderly_more, numbered_more, out_since, out_adds, nothing_since, has_all}
+use Rattle.cht_run.proofs.SweepUnlinks.{machine_unlinks}
+use Rattle.cht_run.proofs.Histories.{among_append, among_either, log_more, draws_more, drawn_still, among_here, among_right, none_adds, none_append, none_undrawn, orderly_more, numbered_more, out_since, out_adds, nothing_since, has_all}
 
 abbrev pub Seats : Type 0
 Seats = State (Unit {0}) Sight
@@ -282,6 +281,7 @@ module _ (o : Origin) (s : Seats) (k : Kept o s) (id : ℕ) (v : Sight) (at : ge
     says = subst (λ w. Rattle.cht_core.specs.WordSays.WordSays t p k.inv.flow stp w) found_is (word_says t m p k.inv.flow k.inv.table stp);
     hears = subst (λ w. Hears t p k.inv.flow i v.load log mach w) found_is (hears t m k.inv.flow i v.load log v.passed mach stp k.inv.table known.0 known.1 owes headed about.plan);
     reads = subst (MachineReads log mach) found_is (reads_say t m k.inv.flow i v.load v.passed log seated k.inv.table mach stp about.plan known.0.kind known.1 reading);
+    unlinks = machine_unlinks t m p k.inv.flow i v.load v.passed k.inv.table mach known.1;
     draws = λ is. (subst (λ w. CountsDraws t.shape.seats w (length (draws_of k.history))) (sym (draws_found is)) k.counted, λ number drawn. let less = k.below number drawn in let same = draws_found is in omega (arith, less, same));
   }
 

@@ -1,5 +1,5 @@
 -- A sweep that has answered, by the words that it found.
-use Rattle.std.proofs.Common.{◌≡◌, ℕ, ◌+◌, ◌^◌, ◌<◌, Bool, true, false, List, [], ◌∷◌, ◌++◌, Option, Some, None, refl, sym, ap, subst, ◌∙◌, arith}
+use Rattle.std.proofs.Common.{◌≡◌, ℕ, ◌^◌, ◌<◌, Bool, true, false, List, [], ◌∷◌, ◌++◌, Option, Some, None, refl, sym, ap, subst, ◌∙◌, arith}
 use Rattle.std.specs.Option.{option_to_list}
 use Rattle.std.specs.Prelude.{nat_le, if◌then◌else◌}
 use Rattle.std.proofs.lemmas.Bool.Decides.{nat_tests}
@@ -47,7 +47,8 @@ use Rattle.call_machine.proofs.Machines.{got_is, event_is, plan_is, fits_part}
 use Rattle.call_machine.proofs.WholeSweep.{sections_end, locks_end, unlinks_end}
 use Rattle.cht_core.specs.declared.table.Table.{Table}
 use Rattle.cht_core.specs.Causes.{IsSpent}
-use Rattle.cht_core.specs.Passes.{HasSwept}
+use Rattle.cht_core.specs.Passes.{HasSwept, IsAtHash}
+use Rattle.cht_core.specs.Stage.{bucket_in}
 use Rattle.cht_core.specs.Windows.{Somewhere, whats_by}
 use Rattle.cht_run.specs.declared.seat.Seat.{Seat}
 use Rattle.cht_run.specs.declared.sight.Origin.{Origin}
@@ -64,8 +65,10 @@ use Rattle.cht_run.specs.Seats.{sight, seen, IsOf}
 use Rattle.cht_run.specs.SweepSteps.{asks, sweeps_at, ended}
 use Rattle.cht_run.specs.Sweeps.{HasSweptAll, Sweeps}
 use Rattle.cht_run.specs.Told.{SweepFound, WorkFound}
+use Rattle.cht_run.specs.Unlinks.{HasFreed, UnlinksOn}
 use Rattle.cht_run.proofs.Ended.{went_ended}
 use Rattle.cht_run.proofs.GraceCalls.{own_left}
+use Rattle.cht_run.proofs.SweepUnlinks.{had_locked, its_bucket, lock_law, unlinks_on}
 use Rattle.cht_run.proofs.WorkRuns.{finds_own}
 
 -- a sweep runs as a machine as it does by itself
@@ -240,34 +243,61 @@ module _ (cht : Cht) (old new : Seat) (m : Machine) (text : Bor (List ℕ)) (of 
       let (word, rest, is, so_far, was) = so a ran.words refl (planned a answered) came.fitting ran.finds in
       (word, rest, is, so_far, subst (λ (o : Origin). Somewhere (λ log. word ≡ counter_in o.table log) (seen old) window) of.origin was)
 
-  -- what it has found out of its bucket
-  swept_all : (unlinked : ℕ) → plan_of m ≡ plan.Answered (answer.Swept unlinked) → HasSweptAll cht.origin text.now new unlinked
-  swept_all unlinked answered =
-      let end = after_words sweeps s ran.words in
-      let is : end.stage ≡ Answered (answer.Swept unlinked) = answered_so end.asked end.along end.stage (answer.Swept unlinked) (planned (answer.Swept unlinked) answered) in
-      let found : SweepFound (sight old).origin.table (seen new) (sight old).number end.asked.hash end.stage = subst (WorkFound (sight old).origin.table (seen new) (sight old).number) machine_is ran.went.found_out in
-      let told = subst (λ (x : SweepStage). SweepFound (sight old).origin.table (seen new) (sight old).number end.asked.hash x) is found in
-      let hashed = subst (λ (q : SweepAsked). SweepFound (sight old).origin.table (seen new) (sight old).number q.hash (Answered (answer.Swept unlinked))) (asked_still s ran.words) told in
-      subst (λ (z : Origin × ℕ). unlinked < 256 → HasSwept z.0.table.shape.min_level (seen new) z.1 (hash_of z.0.seed text.now)) (λ i. (of.origin i, (sym ran.went.stays.number ∙ sym new.named) i)) hashed
+  -- where it answers that it has swept its bucket
+  module _ (unlinked : ℕ) (answered : plan_of m ≡ plan.Answered (answer.Swept unlinked)) where
+    abbrev end : Sweeping
+    end = after_words sweeps s ran.words
+
+    end_is : end.stage ≡ Answered (answer.Swept unlinked)
+    end_is = answered_so end.asked end.along end.stage (answer.Swept unlinked) (planned (answer.Swept unlinked) answered)
+
+    -- what it has found out
+    found_out : SweepFound (sight old).origin.table (seen new) (sight old).number (hash_of (sight old).origin.seed text.now) end.along.cleaning (Answered (answer.Swept unlinked))
+    found_out =
+        let found : SweepFound (sight old).origin.table (seen new) (sight old).number end.asked.hash end.along.cleaning end.stage = subst (WorkFound (sight old).origin.table (seen new) (sight old).number) machine_is ran.went.found_out in
+        let told = subst (λ (x : SweepStage). SweepFound (sight old).origin.table (seen new) (sight old).number end.asked.hash end.along.cleaning x) end_is found in
+        subst (λ (q : SweepAsked). SweepFound (sight old).origin.table (seen new) (sight old).number q.hash end.along.cleaning (Answered (answer.Swept unlinked))) (asked_still s ran.words) told
+
+    swept_all : HasSweptAll cht.origin text.now new unlinked
+    swept_all = subst (λ (z : Origin × ℕ). unlinked < 256 → HasSwept z.0.table.shape.min_level (seen new) z.1 (hash_of z.0.seed text.now)) (λ i. (of.origin i, (sym ran.went.stays.number ∙ sym new.named) i)) found_out.0
+
+    freed : HasFreed t (seen new) new.number
+    freed = subst (λ (z : Origin × ℕ). HasFreed z.0.table (seen new) z.1) (λ i. (of.origin i, (sym ran.went.stays.number ∙ sym new.named) i)) found_out.1
+
+    -- its bucket is that of the text
+    bucket_is : its_bucket end ≡ Some (end.along.cleaning.row, bucket_in end.along.cleaning.row (hash_of cht.origin.seed text.now))
+    bucket_is = ap (had_locked end.along.cleaning) end_is ∙ ap (λ b. Some (end.along.cleaning.row, b)) home
+      where
+        home : end.along.cleaning.bucket ≡ bucket_in end.along.cleaning.row (hash_of cht.origin.seed text.now)
+        home = subst (λ (o : Origin). IsAtHash (hash_of o.seed text.now) end.along.cleaning) of.origin found_out.2
+
+    unlinks : UnlinksOn t old.number end.along.cleaning.row (bucket_in end.along.cleaning.row (hash_of cht.origin.seed text.now)) (seen old) window
+    unlinks = subst (λ (z : Table × ℕ). UnlinksOn z.0 z.1 end.along.cleaning.row (bucket_in end.along.cleaning.row (hash_of cht.origin.seed text.now)) (seen old) window) (λ i. ((ap (λ (o : Origin). o.table) of.origin) i, sym old.named i))
+        (unlinks_on (sight old).origin.table (sight old).number _ _ s ran.words (seen old) window came.fitting bucket_is ran.finds)
 
   sweep_done : (unlinked : ℕ) → plan_of m ≡ plan.Answered (answer.Swept unlinked) → Sweeps cht.origin text.now old new (swept.Done unlinked)
   sweep_done unlinked answered =
       let (word, rest, is, low, (before, later, at, was)) = begun (answer.Swept unlinked) answered in
-      let told = unlinks_end (caller_in (sight old)) (hash_of (sight old).origin.seed text.now) ran.words (answer.Swept unlinked) sound came.fitting (planned (answer.Swept unlinked) answered) in (
-        nothing,
-        (
-          events_of_words sweeps s ran.words,
-          told.0,
-          record {
-            counts = told.1;
-            sections = sections_end (caller_in (sight old)) (hash_of (sight old).origin.seed text.now) ran.words (answer.Swept unlinked) sound came.fitting (planned (answer.Swept unlinked) answered);
-            locks = locks_end (caller_in (sight old)) (hash_of (sight old).origin.seed text.now) ran.words (answer.Swept unlinked) sound came.fitting (planned (answer.Swept unlinked) answered);
-          },
-          told.2,
-          swept_all unlinked answered,
-          went_ended cht old new (call.Sweep text) m ran.went of.origin (Only (events_of_words sweeps s ran.words)) (λ seen window. IsUnspent t seen window) did_is (before, later, at, subst (λ n. n < 2 ^ 48) was low),
-        ),
-      )
+      let caller = caller_in (sight old) in
+      let hash = hash_of (sight old).origin.seed text.now in
+      let told = unlinks_end caller hash ran.words (answer.Swept unlinked) sound came.fitting (planned (answer.Swept unlinked) answered) in
+      record {
+        nothing = nothing;
+        did = events_of_words sweeps s ran.words;
+        row = (end unlinked answered).along.cleaning.row;
+        count = told.0;
+        did_so = record {
+          lock = lock_law s ran.words came.fitting ∙ ap (λ b. Some b) (bucket_is unlinked answered);
+          counts = told.1;
+          sections = sections_end caller hash ran.words (answer.Swept unlinked) sound came.fitting (planned (answer.Swept unlinked) answered);
+          locks = locks_end caller hash ran.words (answer.Swept unlinked) sound came.fitting (planned (answer.Swept unlinked) answered);
+        };
+        tells = told.2;
+        swept_all = swept_all unlinked answered;
+        freed = freed unlinked answered;
+        ended = went_ended cht old new (call.Sweep text) m ran.went of.origin (Only (events_of_words sweeps s ran.words)) (λ seen window. IsUnspent t seen window × UnlinksOn t old.number _ _ seen window) did_is
+            ((before, later, at, subst (λ n. n < 2 ^ 48) was low), unlinks unlinked answered);
+      }
 
   sweep_spent : (counter : ℕ) → plan_of m ≡ plan.Answered (answer.Spent counter) → Sweeps cht.origin text.now old new (swept.Spent counter)
   sweep_spent counter answered =

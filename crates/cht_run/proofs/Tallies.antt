@@ -1,11 +1,9 @@
 -- The counts of the chains of a table add up to the numbers of its map.
-use Rattle.std.proofs.Common.{◌≡◌, ◌≢◌, ℕ, zero, suc, ◌+◌, ◌*◌, ◌<◌, ◌≤◌, ◌^◌, ◌==◌, nat_eq, nat_lt, Bool, true, false, cond, max, List, [], ◌∷◌, map, length, Option, Some, None, ◌⊎◌, inl, inr, refl, sym, ap, subst, ◌∙◌, arith}
-use Rattle.std.specs.Prelude.{sum_by, count_by, fold}
+use Rattle.std.proofs.Common.{◌≡◌, ◌≢◌, ℕ, zero, suc, ◌<◌, ◌≤◌, ◌^◌, ◌==◌, Bool, true, cond, List, [], ◌∷◌, map, length, Option, Some, None, inl, inr, refl, sym, ap, subst, ◌∙◌, arith}
 use Rattle.std.specs.FinMap as finite
 use Rattle.std.specs.List.{All}
-use Rattle.std.proofs.lemmas.Bool.{eqb-true, eq-eqb, ne_eqb, ltb-true, ltb-false, lt-ltb, cases_eq}
+use Rattle.std.proofs.lemmas.Bool.{eqb-true, eq-eqb, ne_eqb}
 use Rattle.std.proofs.lemmas.List.{length-map}
-use Rattle.std.proofs.lemmas.List.Folds.{fold-map}
 use Rattle.chain_core.specs.Nodes.{On, Once}
 use Rattle.chain_core.specs.Path.{IsPath}
 use Rattle.chain_core.proofs.Members.{once_within}
@@ -27,13 +25,12 @@ use Rattle.cht_core.specs.Search.{IsLinked}
 use Rattle.cht_core.specs.Shows.{IsOfBucket}
 use Rattle.cht_core.specs.Slots.{count_in}
 use Rattle.cht_core.proofs.Counts.{holds_in_word, count_here, count_elsewhere, handle_cases}
-use Rattle.cht_core.proofs.RehashWords.{bucket_below}
 use Rattle.cht_core.proofs.ShowsLog.{shows_log}
 use Rattle.cht_core.proofs.Walks.{held_inside, few_held}
 use Rattle.cht_run.specs.declared.tally.Tally.{Tally}
-use Rattle.cht_run.specs.Tallies.{IsShown, live_in, permanent_in, references_in, IsTally, sum_at, sum_in, sum_below, IsChain, HasChain, IsTallyOfChain}
+use Rattle.cht_run.specs.Tallies.{IsShown, live_in, permanent_in, references_in, IsTally, sum_at, sum_in, HasChain, IsTallyOfChain}
 use Rattle.cht_run.proofs.MapEntries.{Item, has_entry, entry_stands, entries_apart}
-use Rattle.cht_run.proofs.Matches.{Stands, Matches, sums_match, sum_alike, sum_together, sum_few}
+use Rattle.cht_run.proofs.Matches.{Stands, Matches, sums_match}
 
 -- what holds of each node of a list
 all_on : (P : ℕ → Type 0) (xs : List ℕ) → ((s : ℕ) → On s xs → P s) → All P xs

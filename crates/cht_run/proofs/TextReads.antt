@@ -1,12 +1,11 @@
 -- A text is read, word by word.
-use Rattle.std.proofs.Common.{◌≡◌, ℕ, ◌+◌, ◌*◌, ◌<◌, ◌≤◌, Bool, true, false, cond, List, [], ◌∷◌, ◌++◌, length, slice_set, get_or, inl, inr, Option, Some, None, refl, sym, ap, subst, ◌∙◌, arith}
+use Rattle.std.proofs.Common.{◌≡◌, ℕ, ◌+◌, ◌*◌, ◌<◌, ◌≤◌, true, false, List, [], ◌∷◌, ◌++◌, length, slice_set, get_or, inl, inr, None, refl, sym, ap, subst, ◌∙◌, arith}
 use Rattle.std.proofs.lemmas.Bool.{cases_eq}
 use Rattle.std.proofs.lemmas.List.{append-nil, append_assoc, get_or-set_same, get_or-set_other}
 use Rattle.text_words.specs.Words.{words_of, word_at}
 use Rattle.marked_word.specs.Meta.{length_in}
 use Rattle.intern_log.specs.declared.event.Event.{Event}
 use Rattle.intern_log.specs.declared.event.Handle.{Handle}
-use Rattle.intern_log.specs.declared.event.What.{What}
 use Rattle.intern_log.specs.declared.event.What.TheVariants as what
 use Rattle.intern_log.specs.Log.{creates}
 use Rattle.intern_log.specs.Own.{is_among}
@@ -32,7 +31,7 @@ use Rattle.call_machine.specs.Sought.{asked_of}
 use Rattle.cht_core.specs.declared.table.Table.{Table}
 use Rattle.cht_core.specs.Past.{by}
 use Rattle.cht_core.specs.Invariant.{events_of}
-use Rattle.cht_core.specs.Windows.{IsTold, whats_by}
+use Rattle.cht_core.specs.Windows.{IsTold}
 use Rattle.cht_core.proofs.CauseCounts.{created_longer}
 use Rattle.cht_core.proofs.Windows.{whats_of}
 use Rattle.cht_run.specs.declared.sight.Origin.{Origin}
@@ -40,7 +39,6 @@ use Rattle.cht_run.specs.declared.sight.Sight.{Sight}
 use Rattle.cht_run.specs.declared.table.Cht.{Cht}
 use Rattle.cht_run.specs.Begins.{begun, GoesOn, GoesFirst}
 use Rattle.cht_run.specs.Calls.{at_stage, At}
-use Rattle.cht_run.specs.Changes.{Made}
 use Rattle.cht_run.specs.History.{log_of}
 use Rattle.cht_run.specs.ReadKept.{StageReads}
 use Rattle.cht_run.specs.Reads.{done_by, IsLonger, HasRead}

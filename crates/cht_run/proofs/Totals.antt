@@ -1,8 +1,8 @@
 -- The buckets of a row add up to the whole map, and one of them is the longest.
-use Rattle.std.proofs.Common.{◌≡◌, ◌≢◌, ℕ, ◌+◌, ◌*◌, ◌<◌, ◌≤◌, ◌^◌, ◌==◌, nat_eq, nat_lt, Bool, true, false, cond, max, List, [], ◌∷◌, map, length, ◌⊎◌, inl, inr, refl, sym, ap, subst, ◌∙◌, arith}
-use Rattle.std.specs.Prelude.{sum_by, count_by, fold}
+use Rattle.std.proofs.Common.{◌≡◌, ◌≢◌, ℕ, ◌+◌, ◌*◌, ◌<◌, ◌≤◌, ◌^◌, ◌==◌, nat_eq, nat_lt, Bool, true, false, cond, max, List, [], ◌∷◌, length, ◌⊎◌, inl, inr, refl, sym, ap, ◌∙◌, arith}
+use Rattle.std.specs.Prelude.{sum_by, fold}
 use Rattle.std.specs.FinMap as finite
-use Rattle.std.proofs.lemmas.Bool.{eqb-true, eq-eqb, ne_eqb, ltb-true, ltb-false, lt-ltb, cases_eq}
+use Rattle.std.proofs.lemmas.Bool.{eqb-true, eq-eqb, ltb-true, ltb-false, lt-ltb, cases_eq}
 use Rattle.std.proofs.lemmas.List.{length-map}
 use Rattle.std.proofs.lemmas.List.Folds.{fold-map}
 use Rattle.intern_log.specs.declared.event.Entry.{Entry}
@@ -23,8 +23,8 @@ use Rattle.cht_run.specs.declared.tally.Tally.{Tally}
 use Rattle.cht_run.specs.Statistics.{permanent_of, IsStatistics}
 use Rattle.cht_run.specs.Tallies.{IsShown, live_in, permanent_in, references_in, IsTally, sum_in, sum_below, IsLongestBelow}
 use Rattle.cht_run.proofs.MapEntries.{Item}
-use Rattle.cht_run.proofs.Matches.{Stands, sum_alike, sum_together, sum_few}
-use Rattle.cht_run.proofs.Tallies.{tally_alike, few_entries, counts_one}
+use Rattle.cht_run.proofs.Matches.{sum_alike, sum_together, sum_few}
+use Rattle.cht_run.proofs.Tallies.{few_entries, counts_one}
 
 sum_ones : {A : Type 0} (xs : List A) → sum_by (λ x. 1) xs ≡ length xs
 sum_ones {A} xs = go xs 0 ∙ omega arith

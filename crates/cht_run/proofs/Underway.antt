@@ -1,5 +1,5 @@
 -- A work, a grace or a sweep goes on by each of its steps.
-use Rattle.std.proofs.Common.{◌≡◌, ◌≢◌, ℕ, ◌+◌, ◌<◌, ◌≤◌, min, cond, [], length, Option, Some, None, refl, sym, ap, subst, ◌∙◌, arith, rules}
+use Rattle.std.proofs.Common.{◌≡◌, ◌≢◌, ℕ, ◌+◌, ◌<◌, min, cond, [], length, Option, Some, None, refl, sym, ap, subst, ◌∙◌, arith, rules}
 use Rattle.atomic_step.specs.declared.plan.Plan.TheVariants as plan
 use Rattle.std.proofs.lemmas.Bool.{eq-eqb, ne_eqb}
 use Rattle.table_shape.specs.declared.shape.Shape.{Shape}
@@ -16,13 +16,12 @@ use Rattle.call_machine.specs.declared.pass.FreeStage.TheVariants as free
 use Rattle.call_machine.specs.declared.pass.PassStage.{PassStage}
 use Rattle.call_machine.specs.declared.pass.PassStage.TheVariants as pass
 use Rattle.call_machine.specs.Grace.{scanned}
-use Rattle.call_machine.specs.Machine.{plan_of, got_of, IsOfWork}
+use Rattle.call_machine.specs.Machine.{plan_of, got_of}
 use Rattle.call_machine.specs.Pass.{pass_row, free_row, passes_on, dead_of, looks_at, unlinks, after_unlink, all_freed}
 use Rattle.call_machine.specs.SoundMachine.{FitsMachine}
 use Rattle.cht_run.specs.declared.sight.Sight.{Sight}
 use Rattle.cht_run.specs.declared.table.Cht.{Cht}
 use Rattle.cht_run.specs.Begins.{GoesOn, SoundIn, next_in}
-use Rattle.cht_run.specs.Runs.{Ran, IsPolling}
 use Rattle.cht_run.specs.Seats.{Raw, Sits}
 use Rattle.cht_run.specs.Underway.{IsAt, HasLess, HasNoMore, Further, Onward, IsPassing, IsFreeing, IsScanning, frees_on}
 use Rattle.cht_run.proofs.Polling.{polls_on, poll_falls, ran_few}

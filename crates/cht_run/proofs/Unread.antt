@@ -1,5 +1,5 @@
 -- A call that does not read a text goes on without reading one.
-use Rattle.std.proofs.Common.{◌≡◌, ℕ, ◌+◌, Bool, true, false, cond, nat_le, Option, Some, None, ◌==◌}
+use Rattle.std.proofs.Common.{ℕ, ◌+◌, Bool, true, false, cond, nat_le, Option, Some, None, ◌==◌}
 use Rattle.marked_word.specs.Head.{is_locked, is_redirected, first_of}
 use Rattle.marked_word.specs.Link.{node_of}
 use Rattle.intern_log.specs.declared.event.Handle.{Handle}
@@ -28,7 +28,7 @@ use Rattle.call_machine.specs.declared.stage.Goal.{Goal}
 use Rattle.call_machine.specs.declared.stage.Goal.TheVariants as goal
 use Rattle.call_machine.specs.Calls.{finds, next_at}
 use Rattle.call_machine.specs.Handle.{count_found}
-use Rattle.call_machine.specs.Insert.{next_slot, inserts, not_claimed, not_created, created, lost_head}
+use Rattle.call_machine.specs.Insert.{next_slot, inserts, not_claimed, not_created, lost_head}
 use Rattle.call_machine.specs.Leave.{left_for, tries_again, leaves_with, loses_with}
 use Rattle.call_machine.specs.Node.{end_of, comes_to, matches}
 

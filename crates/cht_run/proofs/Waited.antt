@@ -1,5 +1,5 @@
 -- Works that are waited for are done.
-use Rattle.std.proofs.Common.{◌≡◌, ◌≢◌, ℕ, ◌+◌, ◌-◌, ◌^◌, ◌<◌, ◌≤◌, Bool, true, false, List, [], ◌∷◌, ◌++◌, Option, Some, None, refl, sym, ap, subst, ◌∙◌, arith}
+use Rattle.std.proofs.Common.{◌≡◌, ℕ, ◌+◌, ◌-◌, ◌^◌, ◌<◌, true, List, [], ◌∷◌, ◌++◌, Option, Some, None, refl, sym, ap, subst, ◌∙◌, arith}
 use Rattle.table_shape.specs.declared.shape.Shape.{Shape}
 use Rattle.table_shape.specs.Shape.{IsSound}
 use Rattle.intern_log.specs.declared.event.Event.{Event}
@@ -10,32 +10,28 @@ use Rattle.atomic_step.specs.declared.answer.Answer.TheVariants as answer
 use Rattle.atomic_step.specs.declared.answer.Worked.{Worked}
 use Rattle.atomic_step.specs.Monitor as monitor
 use Rattle.atomic_step.specs.Monitor.{after_all}
-use Rattle.atomic_step.specs.Run.{AreFitting, after_words, events_of_words}
+use Rattle.atomic_step.specs.Run.{after_words, events_of_words}
 use Rattle.atomic_step.specs.SoundStep.{IsLevel}
-use Rattle.call_machine.specs.declared.begin.Left.TheVariants as left
 use Rattle.call_machine.specs.declared.begin.Task.{Task}
 use Rattle.call_machine.specs.declared.begin.Task.TheVariants as task
-use Rattle.call_machine.specs.declared.call.Call.TheVariants as call
-use Rattle.call_machine.specs.declared.machine.Machine.{Machine}
-use Rattle.call_machine.specs.declared.machine.Machine.TheVariants as machine
 use Rattle.call_machine.specs.declared.resize.Direction.{Direction}
 use Rattle.call_machine.specs.declared.resize.Direction.TheVariants.{Grow, Shrink}
 use Rattle.call_machine.specs.declared.work.Work.{Work as Working}
 use Rattle.call_machine.specs.declared.work.Work.TheVariants as work
-use Rattle.call_machine.specs.Machine.{begun_work_poll}
 use Rattle.call_machine.specs.declared.clean.Clean.{Clean}
 use Rattle.call_machine.specs.declared.clean.CleanStage.TheVariants.{LoadLevel}
+use Rattle.cht_core.specs.Graces.{WorkedWithFew}
 use Rattle.cht_core.specs.Passes.{HasCleaned}
+use Rattle.call_machine.specs.declared.resize.Resize.{Resize}
 use Rattle.call_machine.specs.declared.resize.ResizeStage.TheVariants.{PutNewLevel}
 use Rattle.call_machine.specs.Clean.{begun_clean}
 use Rattle.call_machine.specs.Resize.{begun_resize, end_level}
 use Rattle.call_machine.specs.WorkMonitor.{locked, counts, ends}
 use Rattle.call_machine.specs.ResizeRuns.{is_done, IsRun, ends_at, events_of_run, moves_of_run}
 use Rattle.call_machine.specs.ResizeRuns as resize
-use Rattle.call_machine.specs.SoundMachine.{IsSoundMachine}
 use Rattle.call_machine.specs.SoundResize.{LeadsToLevel}
 use Rattle.call_machine.specs.WholeClean as whole
-use Rattle.call_machine.specs.Work.{begun_work, resumes, of_clean}
+use Rattle.call_machine.specs.Work.{begun_work, resumes}
 use Rattle.call_machine.proofs.CleanGraces.{graces_law}
 use Rattle.call_machine.proofs.ResizeEnds.{ending_law, grow_graces_law, shrink_graces_law, told_law}
 use Rattle.call_machine.proofs.ResizeLocks.{whole_heads_law}
@@ -44,7 +40,6 @@ use Rattle.call_machine.proofs.WorkRuns.{cleans_law, resizes_law}
 use Rattle.cht_core.specs.declared.table.Table.{Table}
 use Rattle.cht_core.specs.Causes.{IsSpent, IsBusy, IsAtLevel}
 use Rattle.cht_core.specs.Windows.{Somewhere}
-use Rattle.cht_run.specs.Begins.{caller_in}
 use Rattle.cht_run.specs.declared.seat.Seat.{Seat}
 use Rattle.cht_run.specs.declared.sight.Origin.{Origin}
 use Rattle.cht_run.specs.declared.table.Cht.{Cht}
@@ -56,9 +51,10 @@ use Rattle.cht_run.specs.Ended.{Ended, Always, Only}
 use Rattle.cht_run.specs.Ends.{HasNothing}
 use Rattle.cht_run.specs.Graces.{counter_in, IsUnspent}
 use Rattle.cht_run.specs.History.{log_of}
-use Rattle.cht_run.specs.Seats.{sight, history, seen, work_of, IsOf}
-use Rattle.cht_run.specs.Waits.{CleanDid, heads_left, HasGraces, ResizeDid, FinishesWork, DidSo, FinishedSo, Finishes}
-use Rattle.cht_run.specs.Works.{HasFinished, IsWorkOf, HasBegun, IsRefused, WasLevel, IsBound, left_by, WasSo, BeginsWork, Runs, IsDone, IsLeft, Leaves}
+use Rattle.cht_run.specs.Seats.{history, seen, work_of, IsOf}
+use Rattle.cht_run.specs.Unlinks.{HasFreed}
+use Rattle.cht_run.specs.Waits.{CleanDid, heads_left, HasGraces, ResizeDid, HasFew, FinishesWork, DidSo, FinishedSo, Finishes}
+use Rattle.cht_run.specs.Works.{HasFinished, IsWorkOf, IsRefused, WasLevel, left_by, WasSo, BeginsWork, Runs, IsDone, IsLeft, Leaves}
 use Rattle.cht_run.proofs.DeadUnlinked.{unlinks_dead}
 use Rattle.cht_run.proofs.Histories.{log-append}
 use Rattle.cht_run.proofs.Following.{because, ended_both, not_called, later, earlier}
@@ -227,16 +223,27 @@ clean_last shape did worked last runs =
     let ran = cleans_law shape (whole.begun shape.min_level) runs.words runs.fitting in
     (_, ap (λ (at : Working × Option Answer). at.0) (sym runs.leads ∙ ran.2))
 
+-- and a resize's is one of its direction
+resize_last : (shape : Shape) (d : Direction) (level : ℕ) (did : List What) (worked : Worked) (last : Working) → Runs shape (resize_from d level) did (last, Some (answer.Done worked)) → (r : Resize) × (r.direction ≡ d) × (last ≡ work.Resize r)
+resize_last shape d level did worked last runs =
+    let ran = resizes_law shape d (resize.begun level) runs.words runs.fitting in
+    (_, refl, ap (λ (at : Working × Option Answer). at.0) (sym runs.leads ∙ ran.2))
+
 finished_so : (cht : Cht) (mid : Seat) (w : Work) (x : Task) (level : ℕ) (state : Working) (did : List What) (worked : Worked) → IsOf cht mid → begun_work cht.origin.table.shape (left_by x level) ≡ Some state → IsWorkOf w state mid →
     (new : Seat) → IsDone cht.origin.table state did worked new → (old : Seat) → (e : Ended cht.origin.table old new (Only (what.ResizeTaken ∷ did)) (λ seen window. WasSo cht.origin.table x level seen window)) →
-    FinishedSo cht.origin.table x (seen old) (log_of e.window)
+    FinishedSo cht.origin.table old.number x worked (seen old) (log_of e.window)
 finished_so cht mid w task.Clean level state did worked of is has new (last, runs, so) old e =
     let from = subst (λ y. Runs cht.origin.table.shape y did (last, Some (answer.Done worked))) (sym (some_work (clean_from cht.origin.table.shape) state is)) runs in
     let one = clean_last cht.origin.table.shape did worked last from in
-    let cleaned : HasCleaned cht.origin.table.shape.min_level (seen new) new.number = subst (λ y. HasFinished cht.origin.table y new) one.1 so in
-    unlinks_dead cht.origin.table (seen old) (log_of e.window) old.number did
-    (subst (λ (z : List Event × ℕ). HasCleaned cht.origin.table.shape.min_level z.0 z.1) (λ i. ((ap log_of e.whole ∙ log-append (history old) e.window) i, e.keeps.number i)) cleaned) e.did
-finished_so cht mid w task.Grow level state did worked of is has new done old e = tt
+    let cleaned : HasCleaned cht.origin.table.shape.min_level (seen new) new.number × HasFreed cht.origin.table (seen new) new.number = subst (λ y. HasFinished cht.origin.table y worked new) one.1 so in
+    let there : HasCleaned cht.origin.table.shape.min_level (seen old ++ log_of e.window) old.number × HasFreed cht.origin.table (seen old ++ log_of e.window) old.number =
+    subst (λ (z : List Event × ℕ). HasCleaned cht.origin.table.shape.min_level z.0 z.1 × HasFreed cht.origin.table z.0 z.1) (λ i. ((ap log_of e.whole ∙ log-append (history old) e.window) i, e.keeps.number i)) cleaned in
+    (unlinks_dead cht.origin.table (seen old) (log_of e.window) old.number did there.0 e.did, there.1)
+finished_so cht mid w task.Grow level state did worked of is has new (last, runs, so) old e =
+    let from = subst (λ y. Runs cht.origin.table.shape y did (last, Some (answer.Done worked))) (sym (some_work (resize_from Grow level) state is)) runs in
+    let (r, direction, one) = resize_last cht.origin.table.shape Grow level did worked last from in
+    let few : WorkedWithFew (seen new) r.direction worked = subst (λ y. HasFinished cht.origin.table y worked new) one so in
+    subst (λ l. HasFew l worked) (ap log_of e.whole ∙ log-append (history old) e.window) (subst (λ x. WorkedWithFew (seen new) x worked) direction few)
 finished_so cht mid w task.Shrink level state did worked of is has new done old e = tt
 
 -- A WORK THAT WAS WAITED FOR
@@ -259,7 +266,7 @@ work_done cht x old mid new w worked of (level, (state, is, has), bound, ended) 
         (
           did,
           did_so cht mid w x level state did worked of is has new done,
-          because (λ seen window. WasSo cht.origin.table x level seen window × FinishedSo cht.origin.table x seen window) both (both.why, finished_so cht mid w x level state did worked of is has new done old both),
+          because (λ seen window. WasSo cht.origin.table x level seen window × FinishedSo cht.origin.table old.number x worked seen window) both (both.why, finished_so cht mid w x level state did worked of is has new done old both),
         ),
       ),
     )

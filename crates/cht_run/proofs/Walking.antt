@@ -1,12 +1,10 @@
 -- What a walk that has answered comes to.
 use Rattle.std.proofs.Common.{◌≡◌, ℕ, true, List, [], ◌∷◌, inl, inr, refl, sym, ap, subst, ◌∙◌, arith}
 use Rattle.std.proofs.lemmas.List.{append-nil}
-use Rattle.intern_log.specs.declared.event.Event.{Event}
 use Rattle.intern_log.specs.declared.event.Handle.{Handle}
 use Rattle.intern_log.specs.declared.event.Kind.{Kind}
 use Rattle.intern_log.specs.declared.event.Kind.TheVariants.{Counted, Weak}
 use Rattle.intern_log.specs.declared.event.What.{What}
-use Rattle.intern_log.specs.Log.{map_of}
 use Rattle.intern_log.specs.Now.{opening}
 use Rattle.intern_log.specs.TextMap.{entry_of}
 use Rattle.intern_log.proofs.LawfulLaws.{texts-now_after}
@@ -24,7 +22,7 @@ use Rattle.call_machine.specs.Sought.{asked_of, is_too_long}
 use Rattle.cht_core.specs.CauseCalls.{Walks, Did, CallEnds, IsAbsent}
 use Rattle.cht_core.specs.Caused.{way_of}
 use Rattle.cht_core.specs.Past.{past_of}
-use Rattle.cht_core.specs.Windows.{Somewhere, whats_by}
+use Rattle.cht_core.specs.Windows.{Somewhere}
 use Rattle.cht_core.proofs.CauseRests.{too_long_is_absent}
 use Rattle.cht_run.specs.declared.intern.TryIntern.{TryIntern}
 use Rattle.cht_run.specs.declared.intern.TryIntern.TheVariants as try_intern

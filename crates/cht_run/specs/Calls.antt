@@ -1,7 +1,5 @@
 -- A call on its way: what has come since its seat began it, and what it has found out.
-use Rattle.std.specs.Prelude.{◌≡◌, ℕ, ◌≤◌, true, List, [], ◌++◌, map}
-use Rattle.atomic_step.specs.declared.answer.Answer.{Answer}
-use Rattle.atomic_step.specs.declared.answer.Answer.TheVariants as answer
+use Rattle.std.specs.Prelude.{◌≡◌, ◌≤◌, true, List, [], ◌++◌, map}
 use Rattle.call_machine.specs.declared.call.Call.{Call}
 use Rattle.call_machine.specs.declared.machine.Machine.{Machine}
 use Rattle.call_machine.specs.declared.machine.Machine.TheVariants as machine

@@ -1,9 +1,7 @@
 -- The poll of a clean that is under way.
-use Rattle.std.specs.Prelude.{◌≡◌, ℕ, ◌^◌, ◌≤◌, Option, Some, None}
-use Rattle.atomic_step.specs.declared.answer.Answer.{Answer}
+use Rattle.std.specs.Prelude.{Option, Some}
 use Rattle.call_machine.specs.declared.clean.Clean.{Clean}
 use Rattle.call_machine.specs.declared.clean.CleanAlong.{CleanAlong}
-use Rattle.call_machine.specs.declared.clean.CleanStage.{CleanStage}
 use Rattle.call_machine.specs.declared.clean.CleanStage.TheVariants as stage
 use Rattle.call_machine.specs.declared.clean.Freeing.{Freeing}
 use Rattle.call_machine.specs.declared.grace.Grace.{Grace}

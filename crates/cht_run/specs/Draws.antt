@@ -21,7 +21,7 @@ use Rattle.cht_run.specs.Changes.{Made}
 use Rattle.cht_run.specs.Ended.{Ended, KeepsFields, KeepsWork, Only}
 use Rattle.cht_run.specs.Ends.{HasNothing, IsAlone}
 use Rattle.cht_run.specs.History.{draws_of, HasSeen, NoneBy, entries_by}
-use Rattle.cht_run.specs.Seats.{Raw, Sits, history, seen, draws, numbers, kids, own_of, work_of, grace_of, IsOf}
+use Rattle.cht_run.specs.Seats.{Raw, Sits, history, draws, numbers, kids, IsOf}
 
 -- WHAT A SPLIT SAYS
 

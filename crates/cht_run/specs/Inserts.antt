@@ -4,8 +4,6 @@ use Rattle.intern_log.specs.declared.event.Handle.{Handle}
 use Rattle.atomic_step.specs.declared.answer.Answer.{Answer}
 use Rattle.atomic_step.specs.declared.answer.Answer.TheVariants as answer
 use Rattle.call_machine.specs.declared.insert.InsertStage.TheVariants as insert
-use Rattle.call_machine.specs.declared.leave.LeaveStage.TheVariants as leave
-use Rattle.call_machine.specs.declared.leave.Then.TheVariants as next
 use Rattle.call_machine.specs.declared.stage.Along.{Along}
 use Rattle.call_machine.specs.declared.stage.Asked.{Asked}
 use Rattle.call_machine.specs.declared.stage.CallStage.{CallStage}

@@ -3,6 +3,7 @@ pub mod ReadKept
 pub mod ChainLengths
 pub mod Covers
 pub mod Rule
+pub mod Unlinks
 pub mod Told
 pub mod Begins
 pub mod Seats

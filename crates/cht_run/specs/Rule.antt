@@ -1,5 +1,5 @@
 -- The rule of a running table: its words, its history and its seats are a state of the core.
-use Rattle.std.specs.Prelude.{◌≡◌, ◌≢◌, ℕ, ◌+◌, ◌<◌, ◌≤◌, ◌⊎◌, Bool, true, false, List, [], ◌∷◌, ◌++◌, length, Option, Some, None}
+use Rattle.std.specs.Prelude.{◌≡◌, ◌≢◌, ℕ, ◌+◌, ◌<◌, ◌≤◌, ◌⊎◌, Bool, true, List, [], ◌∷◌, length, Option, Some, None}
 use mathlib.Core.Option.{some}
 use lib.ListN.{get_elem?}
 use Rattle.atomic_table.specs.Table.{State}
@@ -11,7 +11,6 @@ use Rattle.intern_log.specs.Own.{is_among}
 use Rattle.call_machine.specs.declared.machine.Own.{Own}
 use Rattle.cht_core.specs.declared.seat.Seat.{Seat}
 use Rattle.cht_core.specs.declared.seat.Seat.TheVariants as doing
-use Rattle.cht_core.specs.declared.table.Table.{Table}
 use Rattle.cht_core.specs.Begins.{first_own, new_view}
 use Rattle.cht_core.specs.Causes.{now_in}
 use Rattle.cht_core.specs.HeadKept.{Headed}

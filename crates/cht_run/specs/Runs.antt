@@ -14,7 +14,7 @@ use Rattle.call_machine.specs.declared.machine.Machine.TheVariants as machine
 use Rattle.call_machine.specs.Machine.{plan_of, got_of, event_of, shape_of}
 use Rattle.call_machine.specs.WholeMachine.{machines}
 use Rattle.cht_core.specs.declared.table.Table.{Table}
-use Rattle.cht_core.specs.Causes.{PlanSays}
+use Rattle.cht_core.specs.Causes.{PlanSays, now_in}
 use Rattle.cht_core.specs.Flow.{Flow}
 use Rattle.cht_core.specs.Invariant.{events_of}
 use Rattle.cht_core.specs.Past.{past_of}
@@ -25,15 +25,16 @@ use Rattle.cht_run.specs.declared.sight.Sight.{Sight}
 use Rattle.cht_run.specs.Begins.{first_of}
 use Rattle.cht_run.specs.Calls.{Went}
 use Rattle.cht_run.specs.History.{log_of}
+use Rattle.cht_run.specs.Unlinks.{MachineUnlinks}
 
 -- the word can stand where the next step of a plan finds it
 abbrev pub CanStand : Shape → Plan → ℕ → Type 0
 CanStand shape (plan.Step s) word = IsWordAt shape (access_of s).place word
 CanStand shape (plan.Answered a) word = Unit {0}
 
--- what the word says that the next step of a machine finds at the end of a log
+-- what the word says that the next step of a machine finds at the end of a log, and that a slot which it unlinks is of its bucket
 abbrev pub SaysAt : Table → Machine → ℕ → List Event → Type 0
-SaysAt t m word log = (f : Flow) × PlanSays t (past_of t.shape.min_level log) f (plan_of m) word × CanStand t.shape (plan_of m) word
+SaysAt t m word log = (f : Flow) × PlanSays t (past_of t.shape.min_level log) f (plan_of m) word × CanStand t.shape (plan_of m) word × MachineUnlinks (now_in t log) m
 
 -- the steps of a machine found these words, one after another, at places of the window; after each comes its event, and nothing else there is by the seat
 abbrev pub Finds : Table → ℕ → Machine → List ℕ → List Event → List Event → Type 0

@@ -1,5 +1,5 @@
 -- What a seat that is alone reads in a table: its words stay as they are, and their counts add up to the numbers of its map.
-use Rattle.std.specs.Prelude.{◌≡◌, ℕ, ◌<◌, ◌≤◌, ◌^◌, ◌==◌, nat_lt, if◌then◌else◌, List, [], length, sum_by, Option, Some}
+use Rattle.std.specs.Prelude.{◌≡◌, ℕ, ◌<◌, ◌≤◌, ◌==◌, nat_lt, if◌then◌else◌, List, [], length, sum_by, Option, Some}
 use Rattle.std.specs.List.{All}
 use Rattle.std.specs.Option.{unwrap_or}
 use Rattle.std.specs.FinMap as finite

@@ -3,7 +3,6 @@ use Rattle.std.specs.Prelude.{◌≡◌, ℕ, ◌^◌, ◌<◌, ◌≤◌, true,
 use Rattle.table_shape.specs.declared.place.Place.TheVariants as place
 use Rattle.table_shape.specs.declared.shape.Shape.{Shape}
 use Rattle.intern_log.specs.declared.event.What.{What}
-use Rattle.intern_log.specs.Now.{now_of}
 use Rattle.intern_log.specs.Own.{is_among}
 use Rattle.atomic_step.specs.declared.plan.Plan.TheVariants as plan
 use Rattle.atomic_step.specs.declared.step.Step.{Step}
@@ -19,7 +18,7 @@ use Rattle.cht_core.specs.Caused.{Hears}
 use Rattle.cht_core.specs.Causes.{now_in}
 use Rattle.cht_core.specs.Flow.{Flow}
 use Rattle.cht_core.specs.Invariant.{events_of}
-use Rattle.cht_core.specs.Past.{Past, past_of}
+use Rattle.cht_core.specs.Past.{past_of}
 use Rattle.cht_core.specs.State.{drawn_in}
 use Rattle.cht_core.specs.Tidy.{IsTidy}
 use Rattle.cht_core.specs.View.{load_after, passed_after}
@@ -28,11 +27,13 @@ use Rattle.cht_core.specs.WordSays.{WordSays}
 use Rattle.atomic_step.specs.declared.answer.Answer.{Answer}
 use Rattle.atomic_step.specs.declared.answer.Answer.TheVariants as answer
 use Rattle.call_machine.specs.declared.machine.Machine.TheVariants as machine
+use Rattle.call_machine.specs.declared.pass.Cleaning.{Cleaning}
 use Rattle.call_machine.specs.declared.sweep.SweepStage.{SweepStage}
 use Rattle.call_machine.specs.declared.sweep.SweepStage.TheVariants as sweep
 use Rattle.call_machine.specs.declared.work.Work.{Work}
 use Rattle.call_machine.specs.declared.work.Work.TheVariants as work
-use Rattle.cht_core.specs.Passes.{HasCleaned, HasSwept}
+use Rattle.cht_core.specs.Graces.{WorkedWithFew}
+use Rattle.cht_core.specs.Passes.{HasCleaned, HasSwept, IsAtHash}
 use Rattle.cht_core.specs.PollMeasure.{looked_in}
 use Rattle.cht_core.specs.declared.table.Table.{Table}
 use Rattle.intern_log.specs.declared.event.Event.{Event}
@@ -44,6 +45,7 @@ use Rattle.cht_run.specs.History.{log_of, draws_of, is_drawn, HasSeen, NoneBy}
 use Rattle.cht_run.specs.Covers.{MachineEnds}
 use Rattle.cht_run.specs.ReadKept.{MachineReads}
 use Rattle.cht_run.specs.Rule.{is_seat, CountsDraws}
+use Rattle.cht_run.specs.Unlinks.{HasFreed, MachineUnlinks}
 
 -- what a step adds to the history: its event, and the number that it draws
 abbrev pub tells : ℕ → Option What → List Entry
@@ -92,21 +94,24 @@ pub record Found (o : Origin) (v : Sight) (history : List Entry) (m : Machine) (
   pub says : WordSays o.table (past_of o.table.shape.min_level (log_of history)) flow s word
   pub hears : Hears o.table (past_of o.table.shape.min_level (log_of history)) flow v.number v.load (log_of history) m word
   pub reads : MachineReads (log_of history) m word
+  pub unlinks : MachineUnlinks (now_in o.table (log_of history)) m
   pub draws : (access_of s).place ≡ place.Draws → CountsDraws o.table.shape.seats word (length (draws_of history)) × ((number : ℕ) → is_drawn history number ≡ true → number < word)
 
 -- what a poll or a sweep has found out by the end of a log: a poll has looked at few nodes in its pass or its pair, a clean that is done has unlinked
--- what was dead as its seat took the resize lock, and a sweep of few slots what was dead in its bucket
+-- what was dead as its seat took the resize lock, a grow that is done has had few graces, and a sweep of few slots has unlinked what was dead in its
+-- bucket. After a clean and a sweep all that the seat has unlinked is freed
 abbrev pub PollFound : Table → List Event → ℕ → Work → Option Answer → Type 0
-PollFound t log i (work.Clean c) (Some (answer.Done did)) = HasCleaned t.shape.min_level log i
+PollFound t log i (work.Clean c) (Some (answer.Done did)) = HasCleaned t.shape.min_level log i × HasFreed t log i
+PollFound t log i (work.Resize r) (Some (answer.Done did)) = WorkedWithFew log r.direction did
 PollFound t log i _ _ = Unit {0}
 
-abbrev pub SweepFound : Table → List Event → ℕ → ℕ → SweepStage → Type 0
-SweepFound t log i hash (sweep.Answered (answer.Swept many)) = many < 256 → HasSwept t.shape.min_level log i hash
-SweepFound t log i hash _ = Unit {0}
+abbrev pub SweepFound : Table → List Event → ℕ → ℕ → Cleaning → SweepStage → Type 0
+SweepFound t log i hash c (sweep.Answered (answer.Swept many)) = (many < 256 → HasSwept t.shape.min_level log i hash) × HasFreed t log i × IsAtHash hash c
+SweepFound t log i hash c _ = Unit {0}
 
 abbrev pub WorkFound : Table → List Event → ℕ → Machine → Type 0
 WorkFound t log i (machine.Poll q) = (looked_in (machine.Poll q) ≤ t.shape.slots) × PollFound t log i q.work q.answer
-WorkFound t log i (machine.Sweep s) = SweepFound t log i s.asked.hash s.stage
+WorkFound t log i (machine.Sweep s) = SweepFound t log i s.asked.hash s.along.cleaning s.stage
 WorkFound t log i _ = Unit {0}
 
 -- a step of a machine has found a word: all that came since was seen, nothing of it is by the seat, and then comes the step's own event

@@ -17,14 +17,13 @@ use Rattle.call_machine.specs.declared.pass.Cleaning.{Cleaning}
 use Rattle.call_machine.specs.declared.pass.FreeStage.{FreeStage}
 use Rattle.call_machine.specs.declared.pass.FreeStage.TheVariants as free
 use Rattle.call_machine.specs.declared.pass.PassStage.{PassStage}
-use Rattle.call_machine.specs.declared.pass.PassStage.TheVariants as pass
 use Rattle.call_machine.specs.declared.work.Work.{Work}
 use Rattle.call_machine.specs.declared.lock.Locking.{Locking}
 use Rattle.call_machine.specs.declared.lock.Locking.TheVariants as locking
 use Rattle.call_machine.specs.declared.lock.LockStage.TheVariants as lock
 use Rattle.call_machine.specs.Grace.{scanned}
 use Rattle.call_machine.specs.Machine.{plan_of, got_of, IsOfWork}
-use Rattle.call_machine.specs.Pass.{pass_row, free_row, passes_on}
+use Rattle.call_machine.specs.Pass.{pass_row, free_row}
 use Rattle.call_machine.specs.Poll.{polling}
 use Rattle.call_machine.specs.SoundMachine.{IsSoundMachine}
 use Rattle.call_machine.specs.SoundPass.{IsSoundPass, IsSoundFree, IsSoundCleaning}

@@ -1,5 +1,5 @@
 -- How works end that are waited for.
-use Rattle.std.specs.Prelude.{◌≡◌, ℕ, ◌+◌, ◌-◌, ◌^◌, ◌≤◌, min, List, [], ◌∷◌, Some, None}
+use Rattle.std.specs.Prelude.{◌≡◌, ℕ, ◌+◌, ◌-◌, ◌^◌, ◌≤◌, min, List, [], ◌∷◌, ◌++◌, Some, None}
 use Rattle.intern_log.specs.declared.event.Event.{Event}
 use Rattle.intern_log.specs.declared.event.Handle.{Handle}
 use Rattle.intern_log.specs.declared.event.What.{What}
@@ -20,6 +20,7 @@ use Rattle.call_machine.specs.ResizeLocks.{row_left, pairs_left}
 use Rattle.call_machine.specs.WorkMonitor.{locked, counts, ends}
 use Rattle.cht_core.specs.declared.table.Table.{Table}
 use Rattle.cht_core.specs.Causes.{now_in, IsSpent}
+use Rattle.cht_core.specs.Graces.{WorkedWithFew}
 use Rattle.cht_core.specs.Passes.{IsUnlinkedIn}
 use Rattle.cht_run.specs.declared.seat.Seat.{Seat}
 use Rattle.cht_run.specs.declared.waits.Cleaned.{Cleaned}
@@ -33,6 +34,7 @@ use Rattle.cht_run.specs.declared.waits.Shrunk.TheVariants as shrunk
 use Rattle.cht_run.specs.Ended.{Ended, Only}
 use Rattle.cht_run.specs.Ends.{HasNothing}
 use Rattle.cht_run.specs.Graces.{IsUnspent}
+use Rattle.cht_run.specs.Unlinks.{HasFreed}
 use Rattle.cht_run.specs.Works.{IsBound, WasLevel, WasSo, IsDone}
 
 -- what a clean that is done did after it took the resize lock: its Unlinks and its Graces are counted, up to 2^64 - 1; each bucket that it locked
@@ -73,9 +75,15 @@ FinishesWork t state old new worked = HasNothing new × ((did : List What) × Is
 abbrev pub UnlinksDead : Table → List Event → List Event → Type 0
 UnlinksDead t seen window = (s : ℕ) (text : List ℕ) (h : Handle) (born : ℕ) → (now_in t seen).slot s ≡ Linked text h born → ¬ (IsLive (map_of seen) h) → IsUnlinkedIn s window
 
-abbrev pub FinishedSo : Table → Task → List Event → List Event → Type 0
-FinishedSo t task.Clean seen window = UnlinksDead t seen window
-FinishedSo t _ seen window = Unit {0}
+-- a grow has at most one grace more than there are Creates
+abbrev pub HasFew : List Event → Worked → Type 0
+HasFew log worked = WorkedWithFew log Grow worked
+
+-- what a work that is done has found out by the window of its seat's call: a clean has unlinked what was dead, and freed what it unlinked
+abbrev pub FinishedSo : Table → ℕ → Task → Worked → List Event → List Event → Type 0
+FinishedSo t i task.Clean worked seen window = UnlinksDead t seen window × HasFreed t (seen ++ window) i
+FinishedSo t i task.Grow worked seen window = HasFew (seen ++ window) worked
+FinishedSo t i task.Shrink worked seen window = Unit {0}
 
 -- how a call ends that waits for a work: it is done, or it was at its bound, or the counter is too great
 abbrev pub DidSo : Task → ℕ → List What → Worked → Type 0
@@ -87,18 +95,18 @@ abbrev pub Finishes : Table → Task → Seat → Seat → Finished → Type 0
 Finishes t x old new (finished.Spent counter) = HasNothing new × Ended t old new (Only []) (λ seen window. IsSpent t seen window counter)
 Finishes t x old new (finished.AtBound level) = HasNothing new × IsBound t x level × Ended t old new (Only (what.ResizeTaken ∷ what.ResizeGiven ∷ [])) (λ seen window. WasLevel t level seen window)
 Finishes t x old new (finished.Done worked) = HasNothing new × ((level : ℕ) × ¬ (IsBound t x level)
-    × ((did : List What) × DidSo x level did worked × Ended t old new (Only (what.ResizeTaken ∷ did)) (λ seen window. WasSo t x level seen window × FinishedSo t x seen window)))
+    × ((did : List What) × DidSo x level did worked × Ended t old new (Only (what.ResizeTaken ∷ did)) (λ seen window. WasSo t x level seen window × FinishedSo t old.number x worked seen window)))
 
 abbrev pub Cleans : Table → Seat → Seat → Cleaned → Type 0
 Cleans t old new (cleaned.Spent counter) = HasNothing new × Ended t old new (Only []) (λ seen window. IsSpent t seen window counter)
-Cleans t old new (cleaned.Done worked) = HasNothing new × ((did : List What) × CleanDid did worked × Ended t old new (Only (what.ResizeTaken ∷ did)) (λ seen window. IsUnspent t seen window × UnlinksDead t seen window))
+Cleans t old new (cleaned.Done worked) = HasNothing new × ((did : List What) × CleanDid did worked × Ended t old new (Only (what.ResizeTaken ∷ did)) (λ seen window. IsUnspent t seen window × (UnlinksDead t seen window × HasFreed t (seen ++ window) old.number)))
 
 abbrev pub Grows : Table → Seat → Seat → Grown → Type 0
 Grows t old new (grown.Spent counter) = HasNothing new × Ended t old new (Only []) (λ seen window. IsSpent t seen window counter)
 Grows t old new (grown.AtMaximum level) =
     HasNothing new × (level ≡ t.shape.max_level) × Ended t old new (Only (what.ResizeTaken ∷ what.ResizeGiven ∷ [])) (λ seen window. WasLevel t level seen window)
 Grows t old new (grown.Done worked) = HasNothing new × ((level : ℕ) × ¬ (level ≡ t.shape.max_level)
-    × ((did : List What) × ResizeDid Grow level did worked × Ended t old new (Only (what.ResizeTaken ∷ did)) (λ seen window. WasLevel t level seen window × Unit {0})))
+    × ((did : List What) × ResizeDid Grow level did worked × Ended t old new (Only (what.ResizeTaken ∷ did)) (λ seen window. WasLevel t level seen window × HasFew (seen ++ window) worked)))
 
 abbrev pub Shrinks : Table → Seat → Seat → Shrunk → Type 0
 Shrinks t old new (shrunk.Spent counter) = HasNothing new × Ended t old new (Only []) (λ seen window. IsSpent t seen window counter)

@@ -5,15 +5,10 @@ use Rattle.intern_log.specs.declared.event.Kind.{Kind}
 use Rattle.intern_log.specs.declared.event.Kind.TheVariants.{Counted, Weak}
 use Rattle.atomic_step.specs.declared.answer.Answer.{Answer}
 use Rattle.atomic_step.specs.declared.answer.Answer.TheVariants as answer
-use Rattle.call_machine.specs.declared.call.Call.{Call}
-use Rattle.call_machine.specs.declared.call.Call.TheVariants as call
 use Rattle.call_machine.specs.declared.stage.Asked.{Asked}
 use Rattle.call_machine.specs.declared.stage.Goal.{Goal}
-use Rattle.call_machine.specs.declared.stage.Goal.TheVariants as goal
-use Rattle.call_machine.specs.declared.stage.Request.{Request}
 use Rattle.call_machine.specs.BeginCall.{no_handle}
 use Rattle.call_machine.specs.CallEvents.{stands_for}
-use Rattle.call_machine.specs.Sought.{IsRequest}
 use Rattle.cht_core.specs.CauseCalls.{Walks, ClaimsNone, CallEnds}
 use Rattle.cht_run.specs.declared.seat.Seat.{Seat}
 use Rattle.cht_run.specs.declared.table.Cht.{Cht}

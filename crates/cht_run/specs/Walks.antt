@@ -1,14 +1,11 @@
 -- Where a walk for a text comes to, by what its stages find.
 use Rattle.std.specs.Prelude.{◌≡◌, ℕ, ◌==◌, true, false, if◌then◌else◌, Bool, Option, Some, None}
 use Rattle.marked_word.specs.Head.{is_redirected, first_of}
-use Rattle.atomic_step.specs.declared.answer.Answer.{Answer}
 use Rattle.atomic_step.specs.declared.answer.Answer.TheVariants as answer
 use Rattle.atomic_step.specs.Count.{holds_of, handle_at}
 use Rattle.call_machine.specs.declared.call.Call.{Call}
 use Rattle.call_machine.specs.declared.enter.EnterStage.TheVariants as enter
 use Rattle.call_machine.specs.declared.find.FindStage.TheVariants as find
-use Rattle.call_machine.specs.declared.leave.LeaveStage.TheVariants as leave
-use Rattle.call_machine.specs.declared.leave.Then.TheVariants as next
 use Rattle.call_machine.specs.declared.node.NodeStage.TheVariants as node
 use Rattle.call_machine.specs.declared.stage.Along.{Along}
 use Rattle.call_machine.specs.declared.stage.Asked.{Asked}

@@ -20,6 +20,7 @@ use Rattle.call_machine.specs.declared.work.Work.TheVariants as work
 use Rattle.call_machine.specs.Poll.{works}
 use Rattle.call_machine.specs.Work.{begun_work, resumes, IsSoundWork}
 use Rattle.cht_core.specs.declared.table.Table.{Table}
+use Rattle.cht_core.specs.Graces.{WorkedWithFew}
 use Rattle.cht_core.specs.Passes.{HasCleaned}
 use Rattle.cht_core.specs.Causes.{IsSpent, IsBusy, IsAtLevel, PollEnds}
 use Rattle.cht_core.specs.Windows.{Somewhere}
@@ -40,6 +41,7 @@ use Rattle.cht_run.specs.Ends.{HasNothing}
 use Rattle.cht_run.specs.FullPasses.{RunsWithFew}
 use Rattle.cht_run.specs.Graces.{IsUnspent}
 use Rattle.cht_run.specs.Seats.{sight, seen, work_of, grace_of}
+use Rattle.cht_run.specs.Unlinks.{HasFreed}
 
 -- the seat has this work unfinished
 pub record IsWorkOf (work : Work) (state : Working) (seat : Seat) : Type 0 where
@@ -119,14 +121,15 @@ pub record Runs (shape : Shape) (from : Working) (did : List What) (to : Working
   -- and a clean has made few full passes over one bucket
   pub few : RunsWithFew shape from words
 
--- a clean that is done has unlinked what was dead where its seat took the resize lock, and before
-abbrev pub HasFinished : Table → Working → Seat → Type 0
-HasFinished t (work.Clean c) seat = HasCleaned t.shape.min_level (seen seat) seat.number
-HasFinished t (work.Resize r) seat = Unit {0}
+-- a clean that is done has unlinked what was dead where its seat took the resize lock, and before, and has freed what it unlinked; and a grow has had at most
+-- one grace more than there are Creates
+abbrev pub HasFinished : Table → Working → Worked → Seat → Type 0
+HasFinished t (work.Clean c) worked seat = HasCleaned t.shape.min_level (seen seat) seat.number × HasFreed t (seen seat) seat.number
+HasFinished t (work.Resize r) worked seat = WorkedWithFew (seen seat) r.direction worked
 
 -- the work is done, with these events; or it is to be polled again
 abbrev pub IsDone : Table → Working → List What → Worked → Seat → Type 0
-IsDone t state did worked seat = (last : Working) × Runs t.shape state did (last, Some (answer.Done worked)) × HasFinished t last seat
+IsDone t state did worked seat = (last : Working) × Runs t.shape state did (last, Some (answer.Done worked)) × HasFinished t last worked seat
 
 abbrev pub IsLeft : Table → Working → List What → Work → Seat → Type 0
 IsLeft t state did work seat = (left : Working) × IsWorkOf work left seat × Runs t.shape state did (resumes left)

@@ -1,4 +1,4 @@
-use Rattle.std.proofs.Common.{◌≡◌, ◌<◌, ℕ, List, length, sym, subst, arith}
+use Rattle.std.proofs.Common.{◌≡◌, ℕ, List, sym, subst, arith}
 use Rattle.atomic_table.specs.Table.{Final, Seen}
 use Rattle.cht_run.specs.Rule.{Kept}
 use Rattle.cht_run.proofs.Copies.{copied_one, copied_all}

@@ -1,4 +1,4 @@
-use Rattle.std.proofs.Common.{◌≡◌, ◌+◌, ◌/◌, cond, ap, sym, ◌∙◌}
+use Rattle.std.proofs.Common.{◌+◌, ◌/◌, cond, ap, sym, ◌∙◌}
 use Rattle.table_shape.specs.Place.{row_from}
 use Rattle.cht_run.proofs.Layouts.{row_is}
 use Rattle.cht_run.proofs.layout.Layout.head.Goals as goal

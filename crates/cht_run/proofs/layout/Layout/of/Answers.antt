@@ -1,4 +1,4 @@
-use Rattle.std.proofs.Common.{◌≡◌, refl}
+use Rattle.std.proofs.Common.{refl}
 use native.Mathlib.Omega.{arith}
 use Rattle.table_shape.proofs.Rows.{row_grows, heads_between}
 use Rattle.cht_run.proofs.Layouts.{spread_is}

@@ -1,4 +1,4 @@
-use Rattle.std.proofs.Common.{◌≡◌, subst, ⊎_elim, ℕ, ◌+◌, ◌%◌, ◌^◌, ◌==◌, true, Some, sym, ap, ◌∙◌, refl}
+use Rattle.std.proofs.Common.{subst, ⊎_elim, ◌+◌, ◌%◌, ◌^◌, ◌==◌, sym, ap, ◌∙◌}
 use prog.Atomic.{either}
 use Rattle.table_shape.specs.declared.shape.Shape.{Shape}
 use Rattle.table_shape.specs.Place.{index_of, IsInside}

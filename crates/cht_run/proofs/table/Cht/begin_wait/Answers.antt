@@ -1,6 +1,5 @@
-use Rattle.std.proofs.Common.{◌≡◌, sym, subst, ◌∙◌}
+use Rattle.std.proofs.Common.{subst}
 use Rattle.cht_run.specs.declared.works.Tried.{Tried}
-use Rattle.cht_run.specs.Ended.{KeepsFields}
 use Rattle.cht_run.specs.Works.{BeginsWork}
 use Rattle.cht_run.proofs.Following.{fields_both}
 use Rattle.cht_run.proofs.Waited.{begins_later, waits_on}

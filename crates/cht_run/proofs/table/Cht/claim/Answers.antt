@@ -1,4 +1,4 @@
-use Rattle.std.proofs.Common.{refl, sym, ap}
+use Rattle.std.proofs.Common.{refl}
 use Rattle.call_machine.specs.declared.insert.InsertStage.TheVariants as insert
 use Rattle.call_machine.specs.declared.stage.CallStage.TheVariants as stage
 use Rattle.call_machine.specs.Sought.{asked_of}

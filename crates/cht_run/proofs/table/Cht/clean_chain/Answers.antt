@@ -1,11 +1,10 @@
-use Rattle.std.proofs.Common.{◌≡◌, ℕ, ◌<◌, Some, Option, refl, sym, ap, subst, ◌∙◌}
+use Rattle.std.proofs.Common.{ℕ, Some, Option, sym, subst, ◌∙◌}
 use Rattle.call_machine.specs.declared.pass.Cleaning.{Cleaning}
 use Rattle.call_machine.specs.declared.pass.PassStage.{PassStage}
 use Rattle.call_machine.specs.declared.pass.PassStage.TheVariants as pass
 use Rattle.call_machine.specs.declared.machine.Machine.{Machine}
 use Rattle.call_machine.specs.Clean.{goes, cleans_on}
 use Rattle.call_machine.specs.Pass.{passes_on}
-use Rattle.cht_core.specs.PollMeasure.{poll_left}
 use Rattle.cht_run.specs.Cleans.{cleaned}
 use Rattle.cht_run.specs.Underway.{IsAt, IsPassing}
 use Rattle.cht_run.proofs.Cleans.{clean_passes, chain_further}

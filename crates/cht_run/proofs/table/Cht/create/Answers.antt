@@ -1,7 +1,6 @@
-use Rattle.std.proofs.Common.{refl, sym, ap}
+use Rattle.std.proofs.Common.{refl}
 use Rattle.call_machine.specs.declared.insert.InsertStage.TheVariants as insert
 use Rattle.call_machine.specs.declared.stage.CallStage.TheVariants as stage
-use Rattle.call_machine.specs.Sought.{asked_of}
 use Rattle.cht_run.proofs.Goes.{goes}
 use Rattle.cht_run.proofs.Leads.{created_leads, lost_leads}
 use Rattle.cht_run.proofs.table.Cht.create.Goals as goal

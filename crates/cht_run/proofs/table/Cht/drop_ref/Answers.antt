@@ -1,4 +1,4 @@
-use Rattle.std.proofs.Common.{◌≡◌, refl, subst}
+use Rattle.std.proofs.Common.{refl, subst}
 use Rattle.cht_run.specs.declared.change.TryDrop.{TryDrop}
 use Rattle.cht_run.specs.declared.change.TryDrop.TheVariants as drops
 use Rattle.cht_run.specs.Changes.{dropped, WhyDrops}

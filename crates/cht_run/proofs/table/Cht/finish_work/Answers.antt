@@ -1,10 +1,9 @@
-use Rattle.std.proofs.Common.{◌≡◌, Some, refl, sym, subst, ◌∙◌}
+use Rattle.std.proofs.Common.{◌≡◌, Some, refl, sym, subst}
 use Rattle.atomic_step.specs.declared.answer.Answer.TheVariants as answer
 use Rattle.call_machine.specs.declared.work.Work.{Work as Working}
 use Rattle.cht_run.specs.declared.works.Polled.{Polled}
 use Rattle.cht_run.specs.declared.work.Work.{Work}
-use Rattle.cht_run.specs.Ended.{KeepsFields}
-use Rattle.cht_run.specs.Seats.{work_of, IsOf}
+use Rattle.cht_run.specs.Seats.{work_of}
 use Rattle.cht_run.specs.Works.{IsWorkOf, Leaves, PollsWork}
 use Rattle.cht_run.proofs.Following.{fields_both}
 use Rattle.cht_run.proofs.Waited.{IsSoFar, none_so_far, left_on, finished_on}

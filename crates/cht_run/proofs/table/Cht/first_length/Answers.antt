@@ -1,11 +1,8 @@
-use Rattle.std.proofs.Common.{refl, sym, subst, append-nil, ◌∙◌, ◌≤◌, ◌*◌}
+use Rattle.std.proofs.Common.{refl, append-nil, ◌∙◌}
 use Rattle.atomic_step.specs.declared.step.Step.TheVariants as step
 use Rattle.call_machine.specs.declared.read.ReadStage.TheVariants as read
 use Rattle.call_machine.specs.declared.stage.CallStage.TheVariants as stage
-use Rattle.call_machine.specs.Read.{reads_from}
-use Rattle.cht_run.specs.Calls.{At}
-use Rattle.cht_run.specs.History.{log_of}
-use Rattle.cht_run.specs.Reads.{done_by, IsLong}
+use Rattle.cht_run.specs.Reads.{done_by}
 use Rattle.cht_run.proofs.Firsts.{goes_first}
 use Rattle.cht_run.proofs.TextReads.{first_done, first_says, first_short}
 use Rattle.cht_run.proofs.table.Cht.first_length.Goals as goal

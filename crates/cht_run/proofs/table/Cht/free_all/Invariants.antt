@@ -1,4 +1,4 @@
-use Rattle.std.proofs.Common.{◌≡◌, ◌-◌, length, Some}
+use Rattle.std.proofs.Common.{◌-◌, length, Some}
 use Rattle.call_machine.specs.declared.pass.FreeStage.TheVariants as free
 use Rattle.cht_run.specs.Underway.{IsAt, HasNoMore}
 use Rattle.cht_run.proofs.table.Cht.free_all.Given as goal

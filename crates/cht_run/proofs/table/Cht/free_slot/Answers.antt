@@ -1,4 +1,4 @@
-use Rattle.std.proofs.Common.{◌≡◌, ◌<◌, ap, sym, refl, ◌∙◌, ◌+◌, length, arith}
+use Rattle.std.proofs.Common.{◌<◌, ap, sym, ◌∙◌, length, arith}
 use Rattle.atomic_step.specs.declared.step.Step.TheVariants as step
 use Rattle.call_machine.specs.declared.pass.FreeStage.TheVariants as free
 use Rattle.cht_run.proofs.Underway.{frees_further, free_more, free_last, freed_leads}

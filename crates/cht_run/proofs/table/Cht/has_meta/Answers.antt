@@ -1,7 +1,6 @@
 use Rattle.std.proofs.Common.{refl}
 use Rattle.call_machine.specs.declared.node.NodeStage.TheVariants as node
 use Rattle.call_machine.specs.declared.stage.CallStage.TheVariants as stage
-use Rattle.call_machine.specs.Sought.{asked_of}
 use Rattle.cht_run.proofs.Goes.{goes}
 use Rattle.cht_run.proofs.Leads.{meta_leads}
 use Rattle.cht_run.proofs.table.Cht.has_meta.Goals as goal

@@ -1,5 +1,4 @@
-use Rattle.std.proofs.Common.{◌==◌, refl}
-use Rattle.text_words.specs.Words.{word_at}
+use Rattle.std.proofs.Common.{refl}
 use Rattle.call_machine.specs.declared.node.NodeStage.TheVariants as node
 use Rattle.call_machine.specs.declared.stage.CallStage.TheVariants as stage
 use Rattle.call_machine.specs.Sought.{asked_of}

@@ -1,4 +1,4 @@
-use Rattle.std.proofs.Common.{refl, sym, ◌∙◌}
+use Rattle.std.proofs.Common.{refl, sym}
 use Rattle.call_machine.specs.declared.clean.CleanStage.TheVariants as stage
 use Rattle.cht_run.proofs.Cleans.{clean_further, clean_sound}
 use Rattle.cht_run.proofs.table.Cht.leave_bucket.Goals as goal

@@ -2,7 +2,7 @@ use Rattle.std.proofs.Common.{[], List, ℕ, refl, sym, ap, subst}
 use Rattle.cht_run.specs.declared.sight.Sight.{Sight}
 use Rattle.cht_run.specs.Ended.{Always, Only}
 use Rattle.cht_run.specs.Holds.{HoldLive}
-use Rattle.cht_run.specs.Seats.{sight, seen}
+use Rattle.cht_run.specs.Seats.{seen}
 use Rattle.cht_run.proofs.Looking.{looked_ended, looked_follows}
 use Rattle.cht_run.proofs.table.Cht.level.Goals as goal
 

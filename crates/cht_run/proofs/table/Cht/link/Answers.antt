@@ -1,4 +1,4 @@
-use Rattle.std.proofs.Common.{◌≡◌, ◌<◌, ◌+◌, min, refl, arith}
+use Rattle.std.proofs.Common.{refl, arith}
 use Rattle.call_machine.specs.declared.node.NodeStage.TheVariants as node
 use Rattle.call_machine.specs.declared.stage.CallStage.TheVariants as stage
 use Rattle.call_machine.specs.Sought.{asked_of}

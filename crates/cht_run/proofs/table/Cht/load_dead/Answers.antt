@@ -1,4 +1,4 @@
-use Rattle.std.proofs.Common.{◌≡◌, ap, sym, refl, Some}
+use Rattle.std.proofs.Common.{refl}
 use Rattle.call_machine.specs.declared.pass.PassStage.TheVariants as pass
 use Rattle.cht_run.proofs.Underway.{passes_further, dead_leads}
 use Rattle.cht_run.proofs.table.Cht.load_dead.Goals as goal

@@ -1,4 +1,4 @@
-use Rattle.std.proofs.Common.{◌≡◌, ap, sym, refl, Some, Option, ℕ}
+use Rattle.std.proofs.Common.{ap, sym, refl, Some, Option, ℕ}
 use Rattle.call_machine.specs.declared.pass.PassStage.TheVariants as pass
 use Rattle.cht_run.proofs.Underway.{passes_further}
 use Rattle.cht_run.proofs.table.Cht.look_behind.Goals as goal

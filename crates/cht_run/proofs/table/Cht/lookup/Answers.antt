@@ -1,4 +1,4 @@
-use Rattle.std.proofs.Common.{◌≡◌, refl, subst}
+use Rattle.std.proofs.Common.{refl, subst}
 use Rattle.cht_run.specs.declared.lookup.TryLookup.{TryLookup}
 use Rattle.cht_run.specs.Answers.{LooksUp, WhyLooksUp, LookupHolds}
 use Rattle.cht_run.specs.Ended.{Ended}

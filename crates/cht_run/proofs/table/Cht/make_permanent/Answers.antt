@@ -1,4 +1,4 @@
-use Rattle.std.proofs.Common.{◌≡◌, refl, subst}
+use Rattle.std.proofs.Common.{refl, subst}
 use Rattle.cht_run.specs.declared.change.TryPermanent.{TryPermanent}
 use Rattle.cht_run.specs.declared.change.TryPermanent.TheVariants as stays
 use Rattle.cht_run.specs.Changes.{made_permanent, WhyPermanent}

@@ -1,4 +1,4 @@
-use Rattle.cht_run.proofs.Reading.{opens_words, opens_same}
+use Rattle.cht_run.proofs.Reading.{opens_words}
 use Rattle.cht_run.proofs.table.Cht.open_words.Goals as goal
 
 pub returns-clause-reads : goal.returns-clause-reads

@@ -1,6 +1,5 @@
-use Rattle.std.proofs.Common.{◌≡◌, sym, ap, subst, ◌∙◌}
+use Rattle.std.proofs.Common.{◌≡◌, sym, subst}
 use Rattle.atomic_step.specs.declared.plan.Plan.TheVariants as plan
-use Rattle.atomic_step.specs.declared.step.Step.{Step}
 use Rattle.atomic_step.specs.SoundStep.{IsSoundStep, CanBeFound}
 use Rattle.call_machine.specs.declared.call.Call.{Call}
 use Rattle.call_machine.specs.declared.work.Work.{Work}

@@ -1,6 +1,5 @@
-use Rattle.std.proofs.Common.{◌≡◌, refl, ap, sym}
+use Rattle.std.proofs.Common.{refl, ap}
 use Rattle.atomic_step.specs.declared.answer.Answer.TheVariants as answer
-use Rattle.cht_run.specs.Pending.{IsHeld}
 use Rattle.cht_run.specs.Underway.{answer_at}
 use Rattle.cht_run.proofs.PollCalls.{poll_done, waits_so_far, waits_for_good, polled_unheld}
 use Rattle.cht_run.proofs.table.Cht.poll_work.Goals as goal

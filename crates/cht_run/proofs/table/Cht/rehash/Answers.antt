@@ -1,4 +1,4 @@
-use Rattle.std.proofs.Common.{◌≡◌, ◌+◌, ◌<◌, List, [], sym, ap, subst, ◌∙◌, arith}
+use Rattle.std.proofs.Common.{◌≡◌, ◌+◌, ◌<◌, sym, ap, subst, ◌∙◌, arith}
 use Rattle.atomic_table.specs.Table.{Me}
 use Rattle.cht_core.specs.Causes.{now_in}
 use Rattle.cht_core.specs.Rehash.{HasNoDead}

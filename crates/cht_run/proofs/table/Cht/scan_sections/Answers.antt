@@ -1,4 +1,4 @@
-use Rattle.std.proofs.Common.{◌≡◌, sym, ap, subst, ◌∙◌}
+use Rattle.std.proofs.Common.{sym, ap, subst}
 use Rattle.table_shape.specs.declared.shape.Shape.{Shape}
 use Rattle.call_machine.specs.declared.clean.CleanStage.TheVariants as stage
 use Rattle.call_machine.specs.declared.grace.GraceStage.TheVariants.{LoadSection}

@@ -1,4 +1,4 @@
-use Rattle.std.proofs.Common.{◌≡◌, ap, sym, refl, Some, None, Option, ℕ}
+use Rattle.std.proofs.Common.{ap, sym, refl, Some, None, Option, ℕ}
 use Rattle.call_machine.specs.declared.pass.PassStage.TheVariants as pass
 use Rattle.call_machine.specs.Pass.{passes_on}
 use Rattle.cht_run.proofs.Underway.{passes_further}

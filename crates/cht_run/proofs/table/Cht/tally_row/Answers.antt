@@ -1,4 +1,4 @@
-use Rattle.std.proofs.Common.{◌≡◌, ◌+◌, refl, sym, subst, arith}
+use Rattle.std.proofs.Common.{◌+◌, refl, sym, subst, arith}
 use Rattle.cht_core.proofs.WordsKept.{slots_few}
 use Rattle.cht_run.specs.Seats.{seen}
 use Rattle.cht_run.specs.Tallies.{memory_in, now_for, IsLongestBelow}

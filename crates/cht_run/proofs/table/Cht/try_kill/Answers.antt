@@ -1,4 +1,4 @@
-use Rattle.std.proofs.Common.{sym, ap, subst, ◌∙◌, refl}
+use Rattle.std.proofs.Common.{ap, refl}
 use Rattle.atomic_step.specs.declared.count.Change.TheVariants as change
 use Rattle.call_machine.specs.declared.stage.Asked.{Asked}
 use Rattle.cht_run.proofs.ChangeEnds.{kill_ended}

@@ -1,4 +1,4 @@
-use Rattle.std.proofs.Common.{◌≡◌, ap, sym, refl, ◌∙◌}
+use Rattle.std.proofs.Common.{ap, sym, ◌∙◌}
 use Rattle.atomic_step.specs.declared.step.Edge.{Edge}
 use Rattle.atomic_step.specs.declared.step.Step.TheVariants as step
 use Rattle.call_machine.specs.declared.pass.PassStage.TheVariants as pass

@@ -1,4 +1,4 @@
-use Rattle.std.proofs.Common.{◌≡◌, subst}
+use Rattle.std.proofs.Common.{subst}
 use Rattle.cht_run.specs.declared.works.Tried.{Tried}
 use Rattle.cht_run.specs.Works.{BeginsWork}
 use Rattle.cht_run.proofs.Waited.{work_done}
