@@ -168,6 +168,7 @@ reads_alone behind n reads within backslash none = record { text = backslash_mor
   where
     read : slice_index (drop (n + 1) behind) 0 ≡ slice_index behind (n + 1)
     read = get_or-drop (n + 1) behind 0 0 ∙ ap (λ k. get_or behind k 0) (add-zero (n + 1))
+
     ends : (slice_index behind (n + 1) ≡ 10) ⊎ (slice_index behind (n + 1) ≢ 10) → IsOpen (n + 1) behind
     ends (inl newline) = inr newline
     ends (inr other) = elim (cases_lt (n + 1) (length behind)) [

@@ -206,6 +206,22 @@ mod tests {
         laws::tokens_are_in_order();
         laws::tokens_are_in_place();
         laws::tokens_are_no_more_than_bytes();
+        laws::tokens_from_the_front_are_all();
+    }
+
+    #[test]
+    fn finds_one_token_after_another(rt: HostRuntime) {
+        let bytes = b"9a (b, \"c\\\"\") d";
+        let steps = [
+            (0, Name, 4, 5, 5),
+            (5, Literal, 8, 11, 12),
+            (12, Name, 14, 15, 15),
+        ];
+        for (at, kind, start, end, behind) in steps {
+            let token = Token { kind, start, end };
+            assert_eq!(rt; next_token(bytes, at), Some(Found { token, behind }));
+        }
+        assert_eq!(rt; next_token(bytes, 15), None);
     }
 
     #[test]

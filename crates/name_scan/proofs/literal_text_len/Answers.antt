@@ -1,7 +1,6 @@
-use Rattle.std.proofs.Common.{◌≡◌, true, drop, sym, ◌∙◌}
+use Rattle.std.proofs.Common.{◌≡◌, true}
 use Rattle.std.proofs.lemmas.List.{take_rest}
-use Rattle.name_scan.specs.Pieces.{IsTaken}
-use Rattle.name_scan.proofs.Texts.{reads_none, reads_taken, reads_alone, ends_at_quote}
+use Rattle.name_scan.proofs.Texts.{reads_none, reads_taken, reads_alone}
 use Rattle.name_scan.proofs.Classes.{reads_class}
 use Rattle.name_scan.proofs.literal_text_len.Goals as goal
 use Rattle.name_scan.proofs.literal_text_len.Goals.{in_default-via-in-Backslash+else-may_be_taken, in_default-via-in_default}

@@ -1,6 +1,6 @@
-use Rattle.std.proofs.Common.{◌∙◌, List, sym, subst}
+use Rattle.std.proofs.Common.{List, sym, subst}
 use Rattle.name_scan.specs.declared.Token.{Token}
-use Rattle.name_scan.proofs.TokensFrom.{Completes, completes_first, completes_more, completes_all}
+use Rattle.name_scan.proofs.TokensFrom.{Completes, completes_first}
 use Rattle.name_scan.proofs.scan.Goals as goal
 
 pub loop-found-init : goal.loop-found-init

@@ -1,4 +1,4 @@
-use Rattle.std.proofs.Common.{◌≡◌, sym, arith, drop, ◌∙◌}
+use Rattle.std.proofs.Common.{sym, arith, drop, ◌∙◌}
 use Rattle.std.proofs.lemmas.List.{take_rest}
 use Rattle.name_scan.specs.Pieces.{IsPiece}
 use Rattle.name_scan.proofs.TokensFrom.{tokens_from_token, tokens_from_no_token, tokens_from_end}
