@@ -1,19 +1,16 @@
 -- One step of the count of a file's tokens.
-use Rattle.std.proofs.Common.{◌≡◌, ℕ, ◌+◌, ◌≤◌, Bool, true, false, List, [], ◌∷◌, ◌++◌, length, map, filter, drop, Some, None, option_to_list, refl, sym, ◌∙◌, ap, subst, arith, if◌then◌else◌}
+use Rattle.std.proofs.Common.{◌≡◌, ℕ, ◌+◌, ◌<◌, ◌≤◌, Bool, true, false, List, [], ◌∷◌, ◌++◌, length, map, filter, None, refl, sym, ◌∙◌, ap, subst, arith, if◌then◌else◌}
 use Rattle.std.specs.Option.{option_or}
-use Rattle.std.proofs.lemmas.List.{length-append, length-map, map-append, append-nil}
+use Rattle.std.proofs.lemmas.List.{length-append, length-map, map-append}
 use Rattle.std.proofs.lemmas.List.Elements.{filter-append}
 use Rattle.std.proofs.lemmas.List.Folds.{find-append}
 use Rattle.std.proofs.lemmas.List.Sums.{length-filter, count_by-le-length}
 use Rattle.std.specs.Prelude.{find, nat_lt}
-use Rattle.name_scan.specs.declared.Piece.{Piece}
 use Rattle.name_scan.specs.declared.Token.{Token}
 use Rattle.name_scan.specs.declared.census.Census.{Census}
 use Rattle.name_scan.specs.FileTexts.{is_name, is_literal, text_of, names_among, literals_among, texts_among, first_longer}
-use Rattle.name_scan.specs.Pieces.{piece_len, IsPiece}
-use Rattle.name_scan.specs.Tokens.{token_at, tokens, tokens_at, pieces}
-use Rattle.name_scan.proofs.Cuts.{pieces_cut}
-use Rattle.name_scan.proofs.Scans.{Completes, completes_first, completes_more, completes_all}
+use Rattle.name_scan.specs.Tokens.{tokens, tokens_from}
+use Rattle.name_scan.proofs.TokensFrom.{Completes, completes_first, completes_more, completes_all, completes_fewer}
 use Rattle.name_scan.proofs.TokenSizes.{length-tokens}
 
 -- the census is that of these tokens
@@ -64,44 +61,33 @@ census_more most bs found t old new before names literals longer = record {
 pub counts_nothing : (most : ℕ) (bs : List ℕ) → CountsUpTo most bs 0 (record { names = 0; literals = 0; first_longer = None })
 counts_nothing most bs = record {
   found = [];
-  completes = completes_first bs [] refl;
+  completes = completes_first bs;
   is = record { names = refl; literals = refl; first_longer = refl };
 }
 
--- the piece at a place is counted by its token, if it has one
-pub counts_token : (most : ℕ) (bs : List ℕ) (at : ℕ) (p : Piece) (t : Token) (old new : Census) →
-    CountsUpTo most bs at old → IsPiece p (drop at bs) → Some t ≡ token_at at p →
+-- the token that was found next is counted
+pub counts_token : (most : ℕ) (bs : List ℕ) (at behind : ℕ) (t : Token) (old new : Census) →
+    CountsUpTo most bs at old → tokens_from bs at ≡ t ∷ tokens_from bs behind →
     new.names ≡ old.names + (if is_name t.kind then 1 else 0) → new.literals ≡ old.literals + (if is_literal t.kind then 1 else 0) →
-    new.first_longer ≡ option_or old.first_longer (first_longer most (text_of bs t ∷ [])) → CountsUpTo most bs (at + piece_len p) new
-counts_token most bs at p t old new before piece is names literals longer = record {
+    new.first_longer ≡ option_or old.first_longer (first_longer most (text_of bs t ∷ [])) → CountsUpTo most bs behind new
+counts_token most bs at behind t old new before next names literals longer = record {
   found = before.found ++ t ∷ [];
-  completes = subst (λ o. Completes bs (at + piece_len p) (before.found ++ option_to_list o)) (sym is) (completes_more bs at p before.found before.completes piece);
+  completes = completes_more bs at behind t before.found before.completes next;
   is = census_more most bs before.found t old new before.is names literals longer;
 }
 
-pub counts_no_token : (most : ℕ) (bs : List ℕ) (at : ℕ) (p : Piece) (census : Census) →
-    CountsUpTo most bs at census → IsPiece p (drop at bs) → None ≡ token_at at p → CountsUpTo most bs (at + piece_len p) census
-counts_no_token most bs at p census before piece is = record {
-  found = before.found ++ [];
-  completes = subst (λ o. Completes bs (at + piece_len p) (before.found ++ option_to_list o)) (sym is) (completes_more bs at p before.found before.completes piece);
-  is = subst (λ found. IsCensusOf most bs found census) (sym (append-nil before.found)) before.is;
-}
+-- where no token is left all are counted
+pub counts_all : (most : ℕ) (bs : List ℕ) (at : ℕ) (census : Census) → CountsUpTo most bs at census → tokens_from bs at ≡ [] → IsCensusOf most bs (tokens bs) census
+counts_all most bs at census so_far none = subst (λ found. IsCensusOf most bs found census) (completes_all bs at so_far.found so_far.completes none) so_far.is
 
--- behind the last byte all tokens are counted
-pub counts_all : (most : ℕ) (bs : List ℕ) (at : ℕ) (census : Census) → CountsUpTo most bs at census → length bs ≤ at → IsCensusOf most bs (tokens bs) census
-counts_all most bs at census so_far whole = subst (λ found. IsCensusOf most bs found census) (completes_all bs at so_far.found so_far.completes whole) so_far.is
-
--- no more are counted than there are bytes
-found_few : (bs : List ℕ) (at : ℕ) (found : List Token) → Completes bs at found → length found ≤ length bs
-found_few bs at found done =
-    let whole = done.all (pieces (drop at bs)) (pieces_cut (drop at bs)) in
-    omega (arith, ap length whole, length-append found (tokens_at at (pieces (drop at bs))), length-tokens bs)
-
+-- where a token is left, fewer are counted than there are bytes
 kept_few : (keeps : Token → Bool) (text : Token → List ℕ) (found : List Token) → length (map text (filter keeps found)) ≤ length found
 kept_few keeps text found = omega (arith, length-map (filter keeps found) text, length-filter keeps found, count_by-le-length keeps found)
 
-pub names_few : (most : ℕ) (bs : List ℕ) (at : ℕ) (census : Census) → CountsUpTo most bs at census → census.names ≤ length bs
-names_few most bs at census so_far = omega (arith, so_far.is.names, kept_few (λ u. is_name u.kind) (text_of bs) so_far.found, found_few bs at so_far.found so_far.completes)
+pub names_few : (most : ℕ) (bs : List ℕ) (at behind : ℕ) (t : Token) (census : Census) → CountsUpTo most bs at census → tokens_from bs at ≡ t ∷ tokens_from bs behind → census.names < length bs
+names_few most bs at behind t census so_far next =
+    omega (arith, so_far.is.names, kept_few (λ u. is_name u.kind) (text_of bs) so_far.found, completes_fewer bs at behind t so_far.found so_far.completes next, length-tokens bs)
 
-pub literals_few : (most : ℕ) (bs : List ℕ) (at : ℕ) (census : Census) → CountsUpTo most bs at census → census.literals ≤ length bs
-literals_few most bs at census so_far = omega (arith, so_far.is.literals, kept_few (λ u. is_literal u.kind) (text_of bs) so_far.found, found_few bs at so_far.found so_far.completes)
+pub literals_few : (most : ℕ) (bs : List ℕ) (at behind : ℕ) (t : Token) (census : Census) → CountsUpTo most bs at census → tokens_from bs at ≡ t ∷ tokens_from bs behind → census.literals < length bs
+literals_few most bs at behind t census so_far next =
+    omega (arith, so_far.is.literals, kept_few (λ u. is_literal u.kind) (text_of bs) so_far.found, completes_fewer bs at behind t so_far.found so_far.completes next, length-tokens bs)

@@ -1,6 +1,7 @@
 pub mod Texts
+pub mod Classes
 pub mod Cuts
-pub mod Scans
+pub mod TokensFrom
 pub mod Standing
 pub mod TokenSizes
 pub mod Counts

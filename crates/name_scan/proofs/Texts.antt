@@ -1,8 +1,9 @@
 -- Where the text of a literal ends.
-use Rattle.std.proofs.Common.{◌≡◌, ◌≢◌, ℕ, suc, ◌+◌, ◌-◌, ◌<◌, inl, inr, Bool, true, false, ◌&&◌, ◌||◌, not, ◌==◌, List, [], ◌∷◌, length, take, drop, get_or, slice_index, IsTrue, IsFalse, refl, sym, ◌∙◌, ap, subst, arith, add-zero, length-drop, get_or-drop, drop-drop, below_more}
-use Rattle.std.proofs.lemmas.Bool.{cases_Bool, cases_order, or_cases, or_parts, and_parts, and_cases, eqb-true, eqb-false, not-true, not-false, cond-true, cond-false}
+use Rattle.std.proofs.Common.{◌≡◌, ◌≢◌, ℕ, suc, ◌+◌, ◌-◌, ◌<◌, ◌⊎◌, inl, inr, Bool, true, false, ◌&&◌, ◌||◌, not, ◌==◌, List, [], ◌∷◌, length, take, drop, get_or, slice_index, IsTrue, IsFalse, refl, sym, ◌∙◌, ap, subst, arith, add-zero, length-drop, get_or-drop, drop-drop, below_more}
+use Rattle.std.proofs.lemmas.Bool.{cases_Bool, cases_order, cases_eq, cases_lt, or_cases, or_parts, and_parts, and_cases, eqb-true, eqb-false, ne_eqb, not-true, not-false, cond-true, cond-false}
+use Rattle.std.proofs.Math.Bool.{and-false}
 use Rattle.std.proofs.lemmas.List.Sums.{fold_more}
-use Rattle.name_scan.specs.Pieces.{is_name_byte, takes, takes_next, IsLiteralText, EndsText}
+use Rattle.name_scan.specs.Pieces.{is_name_byte, takes, takes_next, IsLiteralText, IsOpen, EndsText, IsTaken}
 use Rattle.name_scan.specs.Tokens.{text_len}
 
 pub quote_ends_names : IsFalse (is_name_byte 34)
@@ -12,6 +13,10 @@ quote_ends_names = refl
 pub newline_ends_names : IsFalse (is_name_byte 10)
 unfolding is_name_byte
 newline_ends_names = refl
+
+pub backslash_ends_names : IsFalse (is_name_byte 92)
+unfolding is_name_byte
+backslash_ends_names = refl
 
 pub takes_next_none : (bs : List ℕ) → IsFalse (takes_next (take 0 bs))
 unfolding takes_next
@@ -115,3 +120,66 @@ text_len_is bs =
 -- the one text that the bytes behind an opening quote begin with
 pub text_is : (bs : List ℕ) (n : ℕ) → IsLiteralText n bs → EndsText n bs → n ≡ text_len false bs
 text_is bs n text ends = same_text bs n (text_len false bs) text ends (text_len_is bs).0 (text_len_is bs).1
+
+-- a literal's text may have the first n bytes, and the next one is not taken along, unless it ends the text all the same
+pub record ReadsTo (n : ℕ) (behind : List ℕ) : Type 0 where
+  pub text : IsLiteralText n behind
+  pub free : IsFalse (takes_next (take n behind)) ⊎ IsOpen n behind
+
+pub reads_none : (behind : List ℕ) → ReadsTo 0 behind
+reads_none behind = record { text = text_none behind; free = inl (takes_next_none behind) }
+
+-- a byte that means nothing in a literal
+pub reads_plain : (behind : List ℕ) (n : ℕ) → ReadsTo n behind → n < length behind → slice_index behind n ≢ 10 → slice_index behind n ≢ 34 → slice_index behind n ≢ 92 → ReadsTo (n + 1) behind
+reads_plain behind n reads within no_newline no_quote no_backslash = record {
+  text = text_more behind n reads.text within no_newline (λ quote. absurd (no_quote quote));
+  free = inl (takes_next_more behind n within ∙ ap (λ test. test && not (takes_next (take n behind))) (ne_eqb _ 92 no_backslash));
+}
+
+-- a backslash takes the next byte along
+backslash_takes : (behind : List ℕ) (n : ℕ) → ReadsTo n behind → n < length behind → slice_index behind n ≡ 92 → IsTrue (takes_next (take (n + 1) behind))
+backslash_takes behind n reads within backslash =
+    elim reads.free [
+      | inl free ↦ takes_next_more behind n within ∙ ap (takes (takes_next (take n behind))) backslash ∙ ap (λ (taken : Bool). takes taken 92) free
+      | inr (inl whole) ↦ absurd (omega arith)
+      | inr (inr newline) ↦ absurd (omega arith)
+    ]
+
+backslash_more : (behind : List ℕ) (n : ℕ) → ReadsTo n behind → n < length behind → slice_index behind n ≡ 92 → IsLiteralText (n + 1) behind
+backslash_more behind n reads within backslash = text_more behind n reads.text within (λ newline. absurd (omega arith)) (λ quote. absurd (omega arith))
+
+pub reads_taken : (behind : List ℕ) (n : ℕ) → ReadsTo n behind → n < length behind → slice_index behind n ≡ 92 → IsTaken (drop (n + 1) behind) → ReadsTo (n + 2) behind
+reads_taken behind n reads within backslash next =
+    let there : n + 1 < length behind = omega (arith, length-drop (n + 1) behind, next.present) in
+    let read : slice_index (drop (n + 1) behind) 0 ≡ slice_index behind (n + 1) = get_or-drop (n + 1) behind 0 0 ∙ ap (λ k. get_or behind k 0) (add-zero (n + 1)) in
+    let takes_it : takes_next (take (n + 1) behind) ≡ true = backslash_takes behind n reads within backslash in
+    let last : n + 1 + 1 ≡ n + 2 = omega arith in
+    subst (λ k. ReadsTo k behind) last (record {
+      text = text_more behind (n + 1) (backslash_more behind n reads within backslash) there (λ newline. next.no_newline (read ∙ newline)) (λ quote. takes_it);
+      free = inl (takes_next_more behind (n + 1) there ∙ ap (λ (taken : Bool). takes taken (slice_index behind (n + 1))) takes_it ∙ none_taken (slice_index behind (n + 1)));
+    })
+  where
+    none_taken : (b : ℕ) → takes true b ≡ false
+    none_taken b = and-false (b == 92)
+
+-- a backslash that takes nothing along
+pub reads_alone : (behind : List ℕ) (n : ℕ) → ReadsTo n behind → n < length behind → slice_index behind n ≡ 92 → ¬ (IsTaken (drop (n + 1) behind)) → ReadsTo (n + 1) behind
+reads_alone behind n reads within backslash none = record { text = backslash_more behind n reads within backslash; free = inr (ends (cases_eq (slice_index behind (n + 1)) 10)) }
+  where
+    read : slice_index (drop (n + 1) behind) 0 ≡ slice_index behind (n + 1)
+    read = get_or-drop (n + 1) behind 0 0 ∙ ap (λ k. get_or behind k 0) (add-zero (n + 1))
+
+    ends : (slice_index behind (n + 1) ≡ 10) ⊎ (slice_index behind (n + 1) ≢ 10) → IsOpen (n + 1) behind
+    ends (inl newline) = inr newline
+    ends (inr other) = elim (cases_lt (n + 1) (length behind)) [
+      | inl there ↦ absurd (none (record { present = omega (arith, length-drop (n + 1) behind); no_newline = λ newline. other (sym read ∙ newline) }))
+      | inr past ↦ inl (omega arith)
+    ]
+
+-- the text ends at a quote that is not taken along
+pub ends_at_quote : (behind : List ℕ) (n : ℕ) → ReadsTo n behind → n < length behind → slice_index behind n ≡ 34 → EndsText n behind
+ends_at_quote behind n reads within quote =
+    elim reads.free [
+      | inl free ↦ inl (record { within = within; quote = quote; not_taken = free })
+      | inr ends ↦ inr ends
+    ]

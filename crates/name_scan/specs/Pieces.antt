@@ -44,6 +44,11 @@ IsOpen n behind = (n ≡ length behind) ⊎ (slice_index behind n ≡ 10)
 abbrev pub EndsText : ℕ → List ℕ → Type 0
 EndsText n behind = IsClosed n behind ⊎ IsOpen n behind
 
+-- the bytes begin with one that a backslash takes along: a newline ends a literal all the same
+pub record IsTaken (bs : List ℕ) : Type 0 where
+  pub present : 0 < length bs
+  pub no_newline : slice_index bs 0 ≢ 10
+
 -- how many bytes a piece takes up
 abbrev pub piece_len : Piece → ℕ
 piece_len Skipped = 1
@@ -79,6 +84,12 @@ pub record IsOpenLiteral (n : ℕ) (bs : List ℕ) : Type 0 where
   pub opening : slice_index bs 0 ≡ 34
   pub text : IsLiteralText n (drop 1 bs)
   pub ending : IsOpen n (drop 1 bs)
+
+-- the piece is a literal, of which these bytes stand behind the opening quote
+abbrev pub IsLiteralPiece : Piece → List ℕ → Type 0
+IsLiteralPiece (ClosedLiteral n) behind = IsLiteralText n behind × IsClosed n behind
+IsLiteralPiece (OpenLiteral n) behind = IsLiteralText n behind × IsOpen n behind
+IsLiteralPiece _ behind = ⊥
 
 -- the bytes begin with the piece
 abbrev pub IsPiece : Piece → List ℕ → Type 0

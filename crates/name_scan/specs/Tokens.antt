@@ -51,3 +51,7 @@ pieces bs = first_pieces (length bs) bs
 -- the tokens of a file's bytes: those of the pieces that they are cut into
 unfoldable pub tokens : List ℕ → List Token
 tokens bs = tokens_at 0 (pieces bs)
+
+-- the tokens from a place of the file on, where a piece begins at that place
+unfoldable pub tokens_from : List ℕ → ℕ → List Token
+tokens_from bs at = tokens_at at (pieces (drop at bs))

@@ -4,7 +4,7 @@ ghost use Rattle.std.specs.Option.{option_or};
 ghost use Rattle.name_scan.specs.Places.{IsWithin};
 ghost use Rattle.name_scan.specs.FileTexts.{is_name, is_literal, text_of, names_of, literals_of, texts_of, first_longer};
 
-use crate::{Token, TokenKind, first_piece};
+use crate::{Token, TokenKind, next_token};
 
 /// How many names and literals a file has, and whether one of their texts is long.
 #[derive(Clone, Copy, Debug, PartialEq, Eq)]
@@ -61,12 +61,9 @@ pub fn count_tokens(bytes: &[u8], most: usize) -> Census
 {
     let mut census = Census::NOTHING;
     let mut at = 0;
-    while at < bytes.len() {
-        let piece = first_piece(&bytes[at..]);
-        if let Some(token) = piece.token(at) {
-            census = census.with_token(bytes, most, token);
-        }
-        at += piece.len();
+    while let Some(found) = next_token(bytes, at) {
+        census = census.with_token(bytes, most, found.token);
+        at = found.behind;
     }
     census
 }

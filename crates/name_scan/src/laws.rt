@@ -4,7 +4,7 @@ ghost use Rattle.std.specs.List.{AllPairs};
 ghost use Rattle.name_scan.specs.declared.Piece.{Piece};
 ghost use Rattle.name_scan.specs.declared.Token.{Token};
 ghost use Rattle.name_scan.specs.Pieces.{IsCut};
-ghost use Rattle.name_scan.specs.Tokens.{pieces, tokens_at, tokens};
+ghost use Rattle.name_scan.specs.Tokens.{pieces, tokens_at, tokens, tokens_from};
 ghost use Rattle.name_scan.specs.Places.{IsWithin, EndsBefore, IsKindAt};
 
 /// All bytes can be cut into pieces: `pieces` does it.
@@ -41,4 +41,9 @@ pub fn tokens_are_in_place()
 /// There are no more tokens than bytes.
 pub fn tokens_are_no_more_than_bytes()
     ensures law { (bs : List ℕ) → length (tokens bs) ≤ length bs }
+{}
+
+/// The tokens from the front on are all of them.
+pub fn tokens_from_the_front_are_all()
+    ensures law { (bs : List ℕ) → tokens_from bs 0 ≡ tokens bs }
 {}

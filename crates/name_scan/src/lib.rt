@@ -4,23 +4,24 @@
 //! neither kind. A run that begins with no digit is a name, and the text of a literal is a literal.
 #![tactic(auto)]
 
-ghost use Rattle.std.specs.Prelude.{◌≡◌, ◌+◌, ◌^◌, ◌<◌, ◌≤◌, length, IfOk, OnErr, IsTrue, slice_index, slice_range};
+ghost use Rattle.std.specs.Prelude.{◌≡◌, ◌+◌, ◌^◌, ◌<◌, ◌≤◌, ◌↔◌, length, IfOk, OnErr, IsTrue, slice_index, slice_range};
 ghost use Rattle.name_scan.specs.Places.{IsWithin};
-ghost use Rattle.name_scan.specs.Pieces.{is_name_byte, piece_len, IsRun, IsLiteralText, EndsText, IsPiece};
+ghost use Rattle.name_scan.specs.Pieces.{is_name_byte, piece_len, IsRun, IsLiteralText, EndsText, IsTaken, IsLiteralPiece, IsPiece};
 ghost use Rattle.name_scan.specs.Tokens.{token_at, tokens};
 
+use class::Class;
 use std::alloc::{AllocError, Global};
 
 mod census;
+mod class;
+mod found;
 pub mod laws;
 
 pub use census::{Census, count_tokens};
+pub use found::{Found, next_token};
 
 /// The byte before and behind the text of a literal.
 const QUOTE: u8 = b'"';
-
-/// The byte that takes the next one along within a literal.
-const BACKSLASH: u8 = b'\\';
 
 /// The byte that ends a literal which no quote has closed.
 const NEWLINE: u8 = b'\n';
@@ -107,11 +108,11 @@ impl Piece {
 
 /// Whether the byte belongs to a run: a letter or a digit of ASCII, `_`, `$`, or a byte of at least
 /// 128.
-#[tactic(auto, unfolding(crate::specs::Pieces::is_name_byte))]
+#[inline(always)]
 pub fn is_name_byte(byte: u8) -> bool
     ensures value { result ≡ is_name_byte byte }
 {
-    byte.is_ascii_alphanumeric() || byte == b'_' || byte == b'$' || byte >= 128
+    Class::of(byte).is_of_name()
 }
 
 /// The length of the run of name bytes with which the bytes begin.
@@ -133,14 +134,34 @@ fn literal_text_len(behind: &[u8]) -> usize
     ensures text { IsLiteralText result behind.now }
     ensures ends { EndsText result behind.now }
 {
-    let mut taken = false;
-    for (len, byte) in behind.iter().enumerate() {
-        if *byte == NEWLINE || (*byte == QUOTE && !taken) {
-            return len;
+    let mut len = 0;
+    while len < behind.len() {
+        match Class::of(behind[len]) {
+            Class::Quote | Class::Newline => return len,
+            Class::Backslash if may_be_taken(&behind[len + 1..]) => len += 2,
+            _ => len += 1,
         }
-        taken = *byte == BACKSLASH && !taken;
     }
-    behind.len()
+    len
+}
+
+/// Whether the bytes begin with one that a backslash takes along: any but a newline.
+fn may_be_taken(bytes: &[u8]) -> bool
+    ensures { IsTrue result ↔ IsTaken bytes.now }
+{
+    !bytes.is_empty() && bytes[0] != NEWLINE
+}
+
+/// The literal whose text begins the bytes, which stand behind its opening quote.
+fn literal_piece(behind: &[u8]) -> Piece
+    ensures { IsLiteralPiece result behind.now }
+{
+    let len = literal_text_len(behind);
+    if len < behind.len() && behind[len] == QUOTE {
+        Piece::ClosedLiteral(len)
+    } else {
+        Piece::OpenLiteral(len)
+    }
 }
 
 /// The piece with which the bytes begin.
@@ -148,21 +169,11 @@ pub fn first_piece(bytes: &[u8]) -> Piece
     requires { 0 < length bytes.now }
     ensures piece { IsPiece result bytes.now }
 {
-    let first = bytes[0];
-    if first == QUOTE {
-        let behind = &bytes[1..];
-        let len = literal_text_len(behind);
-        if len < behind.len() && behind[len] == QUOTE {
-            Piece::ClosedLiteral(len)
-        } else {
-            Piece::OpenLiteral(len)
-        }
-    } else if !is_name_byte(first) {
-        Piece::Skipped
-    } else if first.is_ascii_digit() {
-        Piece::DigitRun(run_len(bytes))
-    } else {
-        Piece::NameRun(run_len(bytes))
+    match Class::of(bytes[0]) {
+        Class::Quote => literal_piece(&bytes[1..]),
+        Class::Digit => Piece::DigitRun(run_len(bytes)),
+        Class::Letter => Piece::NameRun(run_len(bytes)),
+        Class::Other | Class::Newline | Class::Backslash => Piece::Skipped,
     }
 }
 
@@ -172,16 +183,13 @@ pub fn scan(alloc: Global, bytes: &[u8]) -> Result<Vec<Token>, AllocError>
     ensures tokens { IfOk result (λ found. found.items ≡ tokens bytes.now) }
     ensures memory { OnErr result (0 < length (tokens bytes.now)) }
 {
-    let mut found = Vec::new(alloc);
+    let mut tokens = Vec::new(alloc);
     let mut at = 0;
-    while at < bytes.len() {
-        let piece = first_piece(&bytes[at..]);
-        if let Some(token) = piece.token(at) {
-            found.push(token)?;
-        }
-        at += piece.len();
+    while let Some(found) = next_token(bytes, at) {
+        tokens.push(found.token)?;
+        at = found.behind;
     }
-    Ok(found)
+    Ok(tokens)
 }
 
 #[cfg(test)]
@@ -198,6 +206,22 @@ mod tests {
         laws::tokens_are_in_order();
         laws::tokens_are_in_place();
         laws::tokens_are_no_more_than_bytes();
+        laws::tokens_from_the_front_are_all();
+    }
+
+    #[test]
+    fn finds_one_token_after_another(rt: HostRuntime) {
+        let bytes = b"9a (b, \"c\\\"\") d";
+        let steps = [
+            (0, Name, 4, 5, 5),
+            (5, Literal, 8, 11, 12),
+            (12, Name, 14, 15, 15),
+        ];
+        for (at, kind, start, end, behind) in steps {
+            let token = Token { kind, start, end };
+            assert_eq!(rt; next_token(bytes, at), Some(Found { token, behind }));
+        }
+        assert_eq!(rt; next_token(bytes, 15), None);
     }
 
     #[test]

@@ -1,5 +1,5 @@
 -- The report of a file, from what its names and its literals come to.
-use Rattle.std.proofs.Common.{◌≡◌, ℕ, List, [], ◌∷◌, All, length, sym, ap, ◌∙◌, arith, append-nil, zero-add}
+use Rattle.std.proofs.Common.{◌≡◌, ℕ, List, [], ◌∷◌, length, sym, ap, ◌∙◌, append-nil, zero-add}
 use Rattle.std.specs.Prelude.{Result, Ok, Err, IfOk}
 use Rattle.intern_log.specs.Finals.{finals, distinct_texts}
 use Rattle.intern_log.specs.EntryCounts.{references_of}
@@ -9,19 +9,10 @@ use Rattle.table_report.specs.declared.Statistics2.{Statistics2}
 use Rattle.table_report.specs.declared.SymbolCounts.{SymbolCounts}
 use Rattle.table_report.specs.declared.StringCounts.{StringCounts}
 use Rattle.name_scan.specs.FileTexts.{names_of, literals_of}
-use Rattle.name_scan.specs.Places.{IsWithin}
 use Rattle.table_report.specs.FileReport.{settled, symbol_load, string_load, report_of, plain_hold, plain_min_level, plain_max_level, IsPlainReport}
 use Rattle.table_program.specs.Symbols.{IsSymbolsOf}
 use Rattle.table_report.specs.Report.{report_lines}
 use Rattle.table_program.specs.StringRun.{IsStringsOf}
-use Rattle.name_scan.specs.Tokens.{tokens, pieces}
-use Rattle.name_scan.proofs.Cuts.{pieces_cut}
-use Rattle.name_scan.proofs.Standing.{within_bytes}
-
--- each token of a file lies within its bytes
-pub tokens_within : (bs : List ℕ) → All (IsWithin bs) (tokens bs)
-unfolding tokens
-tokens_within bs = within_bytes (pieces bs) bs 0 (omega arith) (pieces_cut bs)
 
 -- the report of one file from what two interners and the counts show
 unfoldable pub report_from : List (List ℕ) → TextMap → ℕ → SymbolCounts → List (List ℕ) → TextMap → StringCounts → Report

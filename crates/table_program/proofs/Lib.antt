@@ -12,8 +12,10 @@ pub mod SymbolTotals
 pub mod StringSteps
 pub mod StringTotals
 pub mod StringCode
+pub mod LiteralRuns
 pub mod Settling
 pub mod LongTexts
+pub mod Passes
 pub mod FileReports
 pub mod CommandWords
 pub mod ReplayFaults

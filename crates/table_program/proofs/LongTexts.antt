@@ -1,11 +1,11 @@
 -- What holds where no text is too long.
-use Rattle.std.proofs.Common.{◌≡◌, ℕ, ◌≤◌, Bool, true, false, cond, nat_lt, List, [], ◌∷◌, All, filter, length, Option, Some, None, refl}
+use Rattle.std.proofs.Common.{◌≡◌, ℕ, Bool, true, false, cond, nat_lt, List, [], ◌∷◌, All, length, Option, Some, None, refl}
 use Rattle.std.specs.Option.{option_map, option_or}
 use Rattle.std.proofs.lemmas.Bool.{ltb-false}
 use Rattle.std.specs.List.{AllByRecursion}
-use Rattle.std.proofs.lemmas.List.Elements.{All-from_recursion, All-filter, All-map}
+use Rattle.std.proofs.lemmas.List.Elements.{All-from_recursion}
 use Rattle.name_scan.specs.declared.Token.{Token}
-use Rattle.name_scan.specs.FileTexts.{is_literal, text_of, texts_among, names_among, literals_among}
+use Rattle.name_scan.specs.FileTexts.{text_of, texts_among, names_among, literals_among}
 use Rattle.table_program.specs.declared.outcome.Limit.TheVariants.{Text, Names, Literals}
 use Rattle.table_program.specs.declared.outcome.Note.{Note}
 use Rattle.table_program.specs.declared.outcome.Note.TheVariants as note
@@ -40,8 +40,3 @@ pub first_of_three : (both all text names literals text_is names_is literals_is 
     all ≡ option_or both literals → both ≡ option_or text names → text ≡ text_is → names ≡ names_is → literals ≡ literals_is →
     all ≡ option_or (option_or text_is names_is) literals_is
 first_of_three both all text names literals text_is names_is literals_is all_are both_are text_same names_same literals_same = cc
-
--- each name and each literal among short tokens is short
-pub literals_are_short : (bytes : List ℕ) (found : List Token) → All (IsShort bytes) found → All (λ text. length text ≤ 65535) (literals_among bytes found)
-literals_are_short bytes found short =
-    All-map (λ text. length text ≤ 65535) (text_of bytes) (filter (λ (t : Token). is_literal t.kind) found) (All-filter (λ (t : Token). is_literal t.kind) (IsShort bytes) found short)

@@ -1,5 +1,5 @@
 -- What answers of the interner do to a run of literals and to its listing.
-use Rattle.std.proofs.Common.{◌≡◌, ℕ, ◌+◌, ◌<◌, ◌≤◌, Bool, true, false, cond, List, [], ◌∷◌, ◌++◌, length, map, take, drop, get_or, refl, sym, ap, subst, ◌∙◌, append-nil, add-zero, add-one, drop-cons, arith, All}
+use Rattle.std.proofs.Common.{◌≡◌, ℕ, ◌+◌, ◌<◌, ◌≤◌, Bool, true, false, cond, List, [], ◌∷◌, ◌++◌, length, map, take, drop, get_or, refl, sym, ap, subst, ◌∙◌, append-nil, add-zero, add-one, drop-cons, arith}
 use mir.Val.{bool_byte}
 use Rattle.std.specs.Bool.{OnTrue}
 use Rattle.std.specs.Str.{bytes_eq}
@@ -69,10 +69,7 @@ none_made t (Taken h) other = refl
 none_made t (Found h) other = refl
 
 module _ (bytes : List ℕ) where
-  -- one literal more, and one entry more that is listed
-  pub texts_more : (literals : List Token) (i : ℕ) (d : Token) → i < length literals → map (text_of bytes) (take (i + 1) literals) ≡ map (text_of bytes) (take i literals) ++ text_of bytes (get_or literals i d) ∷ []
-  texts_more literals i d within = ap (map (text_of bytes)) (take_more literals i d within) ∙ map-append (text_of bytes) (take i literals) (get_or literals i d ∷ [])
-
+  -- one entry more that is listed
   pub left_more : (entries : List MadeEntry) (i : ℕ) (d : MadeEntry) → i < length entries → drop i entries ≡ get_or entries i d ∷ drop (i + 1) entries
   left_more entries i d within = drop-cons entries i d within ∙ ap (λ n. get_or entries i d ∷ drop n entries) (sym (add-one i))
 
@@ -136,9 +133,3 @@ module _ (bytes : List ℕ) where
       lists (map (text_of bytes) literals) (subst (λ entries. StringListing (map (text_of bytes) last) (map (text_of bytes) literals) [] (pairs_of bytes entries) old.texts old.created 0) (sym listed_are) begun) in
       subst (λ texts. StringListing texts (map (text_of bytes) literals) (pairs_of bytes made) [] new.texts new.created killed) final
       (subst (λ entries. StringListing (map (text_of bytes) last) (map (text_of bytes) literals) (pairs_of bytes entries) [] new.texts new.created killed) listed_are done)
-
-  -- what is so of each text is so of each token's text
-  pub short_literals : (literals : List Token) → All (λ text. length text ≤ 65535) (map (text_of bytes) literals) → All (λ t. length (text_of bytes t) ≤ 65535) literals
-  short_literals literals short k d within =
-      let here = short k (text_of bytes d) (rw length-map within) in
-      subst (λ text. length text ≤ 65535) (get_or-map (text_of bytes) literals k d (text_of bytes d) within) here

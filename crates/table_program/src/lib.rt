@@ -10,6 +10,7 @@
 mod cases;
 mod command;
 mod commands;
+mod interning;
 pub mod laws;
 mod limits;
 mod literals;

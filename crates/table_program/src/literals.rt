@@ -1,13 +1,14 @@
-//! Interns the literals of a file, and kills those that are not among the last.
-ghost use Rattle.std.specs.Prelude.{◌≡◌, ℕ, ◌+◌, ◌-◌, ◌^◌, ◌<◌, ◌≤◌, List, [], ◌∷◌, ◌++◌, length, filter, All, IfOk, OnOk, if◌then◌else◌};
-ghost use Rattle.intern_log.specs.TextMap.{no_texts};
-ghost use Rattle.intern_log.specs.Finals.{finals, is_among_texts};
-ghost use Rattle.name_scan.specs.FileTexts.{is_literal, text_of, literals_among};
+//! The literals of a file: interned in order, and all killed that are not among the last.
+ghost use Rattle.std.specs.Prelude.{◌≡◌, ℕ, ◌+◌, ◌-◌, ◌^◌, ◌<◌, ◌≤◌, List, [], ◌∷◌, ◌++◌, length, All, IfOk, OnOk, if◌then◌else◌};
+ghost use Rattle.intern_log.specs.Finals.{is_among_texts};
+ghost use Rattle.name_scan.specs.FileTexts.{text_of, literals_among};
 ghost use Rattle.name_scan.specs.Places.{IsWithin};
-ghost use Rattle.table_program.specs.MadeEntries.{texts_of, AreWithin, IsLiteralRun, IsListing};
+ghost use Rattle.name_scan.specs.declared.Token.{Token};
+ghost use Rattle.table_program.specs.MadeEntries.{texts_of, AreWithin, IsLiteralRun, IsListing, LiteralsSoFar};
 ghost use Rattle.table_program.specs.StringRun.{IsStringsOf};
 ghost use Rattle.table_program.specs.declared.literals.MadeEntry.{MadeEntry};
 
+use circular_buffer::HeapCircularBuffer;
 use intern_log::{Handle, Kind};
 use name_scan::{Token, TokenKind};
 use plain_interner::{Plain, PlainInterned};
@@ -31,17 +32,6 @@ pub(crate) struct Strings {
 struct MadeEntry {
     literal: Token,
     handle: Handle,
-}
-
-/// The literals among the tokens.
-fn literal_tokens(alloc: Global, tokens: &[Token]) -> Result<Vec<Token>, AllocError>
-    ensures { IfOk result (λ literals. literals.items ≡ filter (λ t. is_literal t.kind) tokens.now) }
-{
-    tokens
-        .iter()
-        .filter(|token| matches!(token.kind, TokenKind::Literal))
-        .copied()
-        .collect(alloc)
 }
 
 /// Whether the text is that of one of the literals. It compares the text with each of them.
@@ -83,28 +73,6 @@ fn intern_literal(
     }
 }
 
-/// Interns the literals in order. The answer is the entries that they made.
-fn intern_each(
-    alloc: Global,
-    plain: &mut Plain,
-    bytes: &[u8],
-    literals: &[Token],
-) -> Result<Vec<MadeEntry>, AllocError>
-    requires new { plain.old ≡ record { kind = Kind.Weak; texts = no_texts; created = 0 } }
-    requires within { All (IsWithin bytes.now) literals.now }
-    requires short { All (λ t. length (text_of bytes.now t) ≤ 65535) literals.now }
-    requires few { length literals.now < 2 ^ 32 - 1 }
-    ensures weak { OnOk result (plain.new.kind ≡ Kind.Weak) }
-    ensures within { IfOk result (λ made. AreWithin bytes.now made.items) }
-    ensures run { IfOk result (λ made. IsLiteralRun bytes.now (texts_of bytes.now literals.now) plain.new made.items) }
-{
-    let mut made = Vec::new(alloc);
-    for literal in literals {
-        intern_literal(plain, &mut made, bytes, *literal)?;
-    }
-    Ok(made)
-}
-
 /// Kills the entry where its text is not that of a final literal, and tells whether it did.
 fn list_entry(plain: &mut Plain, bytes: &[u8], final_literals: &[Token], entry: MadeEntry) -> bool
     requires within { IsWithin bytes.now entry.literal }
@@ -144,66 +112,78 @@ fn list_entries(
     killed
 }
 
-/// The last `hold` of the literals.
-fn last_literals(literals: &[Token], hold: usize) -> &[Token]
-    ensures { result.now ≡ finals hold literals.now }
-{
-    &literals[literals.len().saturating_sub(hold)..]
+/// The literals of a file as far as its tokens were gone over: the entries that they made, and the
+/// last few of them.
+#[derive(Drop)]
+pub(crate) struct Literals {
+    plain: Plain,
+    made: Vec<MadeEntry>,
+    last: HeapCircularBuffer<Token>,
+    count: u64,
 }
 
-/// Interns the literals in order, and then kills those that are not among the last `hold`.
-fn intern_and_list(
-    alloc: Global,
-    bytes: &[u8],
-    literals: &[Token],
-    hold: usize,
-) -> Result<Strings, AllocError>
-    requires within { All (IsWithin bytes.now) literals.now }
-    requires short { All (λ t. length (text_of bytes.now t) ≤ 65535) literals.now }
-    requires few { length literals.now < 2 ^ 32 - 1 }
-    ensures strings { IfOk result (λ strings.
-        IsStringsOf hold (texts_of bytes.now literals.now) strings.plain.texts strings.counts) }
-    ensures literals { IfOk result (λ strings. strings.literals ≡ length literals.now) }
-{
-    let mut plain = Plain::new(alloc, Kind::Weak);
-    let made = intern_each(alloc, &mut plain, bytes, literals)?;
-    let killed = list_entries(
-        &mut plain,
-        bytes,
-        last_literals(literals, hold),
-        made.as_slice(),
-    );
-    let literals = literals.len() as u64;
-    let entries = plain.created();
-    let counts = StringCounts {
-        created: entries,
-        found: literals - entries,
-        killed,
-    };
-    Ok(Strings {
-        plain,
-        literals,
-        counts,
-    })
-}
+impl Literals {
+    /// No token was gone over yet. The last `hold` literals will stay.
+    pub(crate) fn new(alloc: Global, hold: usize) -> Result<Literals, AllocError>
+        ensures none { IfOk result (λ literals. (bytes : List ℕ) →
+            LiteralsSoFar hold bytes [] literals.plain literals.made.items literals.last literals.count) }
+    {
+        Ok(Literals {
+            plain: Plain::new(alloc, Kind::Weak),
+            made: Vec::new(alloc),
+            last: HeapCircularBuffer::with_capacity(alloc, hold)?,
+            count: 0,
+        })
+    }
 
-/// Interns the literals among the tokens in order, and then kills each text that is not among the
-/// last `hold` literals, in the order in which their entries were made. The only error is want of
-/// memory. It compares each text that has an entry with the last `hold` literals, one by one.
-pub(crate) fn intern_literals(
-    alloc: Global,
-    bytes: &[u8],
-    tokens: &[Token],
-    hold: usize,
-) -> Result<Strings, AllocError>
-    requires within { All (IsWithin bytes.now) tokens.now }
-    requires short { All (λ text. length text ≤ 65535) (literals_among bytes.now tokens.now) }
-    requires few { length (literals_among bytes.now tokens.now) < 2 ^ 32 - 1 }
-    ensures strings { IfOk result (λ strings.
-        IsStringsOf hold (literals_among bytes.now tokens.now) strings.plain.texts strings.counts) }
-    ensures literals { IfOk result (λ strings.
-        strings.literals ≡ length (literals_among bytes.now tokens.now)) }
-{
-    let literals = literal_tokens(alloc, tokens)?;
-    intern_and_list(alloc, bytes, literals.as_slice(), hold)
+    /// Interns one token more where it is a literal. Want of memory is the only error.
+    pub(crate) fn add(&mut self, bytes: &[u8], token: Token) -> Result<(), AllocError>
+        requires window { 0 < self.old.last.capacity }
+        requires within { IsWithin bytes.now token }
+        requires short { length (text_of bytes.now token) ≤ 65535 }
+        requires so_far { (found : List Token) × (length found < 2 ^ 32 - 1) ×
+            LiteralsSoFar self.old.last.capacity bytes.now found self.old.plain self.old.made.items self.old.last self.old.count }
+        ensures added { (found : List Token) →
+            LiteralsSoFar self.old.last.capacity bytes.now found self.old.plain self.old.made.items self.old.last self.old.count →
+            OnOk result (LiteralsSoFar self.old.last.capacity bytes.now (found ++ token ∷ []) self.new.plain self.new.made.items self.new.last self.new.count) }
+    {
+        match token.kind {
+            TokenKind::Name => Ok(()),
+            TokenKind::Literal => {
+                intern_literal(&mut self.plain, &mut self.made, bytes, token)?;
+                self.last.push_back(token);
+                self.count += 1;
+                Ok(())
+            }
+        }
+    }
+
+    /// Kills each text that is not among the last literals, in the order in which their entries were
+    /// made. The only error is want of memory. It compares each text that has an entry with the last
+    /// literals, one by one.
+    pub(crate) fn into_strings(mut self, alloc: Global, bytes: &[u8]) -> Result<Strings, AllocError>
+        requires so_far { (found : List Token) × LiteralsSoFar self.last.capacity bytes.now found self.plain self.made.items self.last self.count }
+        ensures strings { (found : List Token) →
+            LiteralsSoFar self.last.capacity bytes.now found self.plain self.made.items self.last self.count →
+            IfOk result (λ strings. IsStringsOf self.last.capacity (literals_among bytes.now found) strings.plain.texts strings.counts) }
+        ensures literals { IfOk result (λ strings. strings.literals ≡ self.count) }
+    {
+        let last = self.last.to_vec(alloc)?;
+        let killed = list_entries(
+            &mut self.plain,
+            bytes,
+            last.as_slice(),
+            self.made.as_slice(),
+        );
+        let created = self.plain.created();
+        Ok(Strings {
+            plain: self.plain,
+            literals: self.count,
+            counts: StringCounts {
+                created,
+                found: self.count - created,
+                killed,
+            },
+        })
+    }
 }

@@ -1,11 +1,11 @@
 //! The names of a file: interned in order, the last few of them held.
-ghost use Rattle.std.specs.Prelude.{◌≡◌, ℕ, ◌+◌, ◌-◌, ◌<◌, ◌≤◌, ◌^◌, List, [], ◌∷◌, ◌++◌, length, IfOk, OnOk, All};
+ghost use Rattle.std.specs.Prelude.{◌≡◌, ℕ, ◌+◌, ◌-◌, ◌<◌, ◌≤◌, ◌^◌, List, [], ◌∷◌, ◌++◌, length, IfOk, OnOk};
 ghost use Rattle.name_scan.specs.declared.Token.{Token};
 ghost use Rattle.name_scan.specs.FileTexts.{names_among};
 ghost use Rattle.name_scan.specs.Places.{IsWithin};
 ghost use Rattle.table_program.specs.Limits.{IsShort};
 ghost use Rattle.table_program.specs.SymbolRun.{SymbolRun, NameInterned, IsSymbolWindow, CountsFit};
-ghost use Rattle.table_program.specs.Symbols.{InternsName, IsSymbolsOf};
+ghost use Rattle.table_program.specs.Symbols.{InternsName, NamesSoFar};
 
 use circular_buffer::HeapCircularBuffer;
 use intern_log::{Handle, Kind};
@@ -125,34 +125,61 @@ pub(crate) struct Symbols {
     pub counts: SymbolCounts,
 }
 
-/// Interns the names among a file's tokens in order, each held until `hold` others were interned
-/// after it. Want of memory is the only error.
-pub(crate) fn intern_names(
-    alloc: Global,
-    bytes: &[u8],
-    tokens: &[Token],
-    hold: usize,
-) -> Result<Symbols, AllocError>
-    requires window { IsSymbolWindow hold }
-    requires within { All (IsWithin bytes.now) tokens.now }
-    requires short { All (IsShort bytes.now) tokens.now }
-    requires few { length tokens.now < 2 ^ 32 - 1 }
-    ensures symbols { IfOk result (λ symbols. IsSymbolsOf hold (names_among bytes.now tokens.now) symbols.plain.texts symbols.counts) }
-    ensures names { IfOk result (λ symbols. symbols.names ≡ length (names_among bytes.now tokens.now)) }
-{
-    let mut plain = Plain::new(alloc, Kind::Counted);
-    let mut window = HeapCircularBuffer::with_capacity(alloc, hold)?;
-    let mut counts = SymbolCounts {
-        created: 0,
-        taken: 0,
-        dropped: 0,
-    };
-    for token in tokens {
-        hold_token(&mut plain, &mut window, &mut counts, bytes, *token)?;
+/// The names of a file as far as its tokens were gone over, the last few of them held.
+#[derive(Drop)]
+pub(crate) struct Names {
+    plain: Plain,
+    window: HeapCircularBuffer<Handle>,
+    counts: SymbolCounts,
+}
+
+impl Names {
+    /// No token was gone over yet. Each name will be held until `hold` others were interned after it.
+    pub(crate) fn new(alloc: Global, hold: usize) -> Result<Names, AllocError>
+        ensures none { IfOk result (λ names. (bytes : List ℕ) → NamesSoFar hold bytes [] names.plain names.window names.counts) }
+    {
+        Ok(Names {
+            plain: Plain::new(alloc, Kind::Counted),
+            window: HeapCircularBuffer::with_capacity(alloc, hold)?,
+            counts: SymbolCounts {
+                created: 0,
+                taken: 0,
+                dropped: 0,
+            },
+        })
     }
-    Ok(Symbols {
-        plain,
-        names: counts.created + counts.taken,
-        counts,
-    })
+
+    /// Interns and holds one token more where it is a name. Want of memory is the only error.
+    pub(crate) fn add(&mut self, bytes: &[u8], token: Token) -> Result<(), AllocError>
+        requires window { IsSymbolWindow self.old.window.capacity }
+        requires within { IsWithin bytes.now token }
+        requires short { IsShort bytes.now token }
+        requires so_far { (found : List Token) × (length found < 2 ^ 32 - 1) ×
+            NamesSoFar self.old.window.capacity bytes.now found self.old.plain self.old.window self.old.counts }
+        ensures added { (found : List Token) →
+            NamesSoFar self.old.window.capacity bytes.now found self.old.plain self.old.window self.old.counts →
+            OnOk result (NamesSoFar self.old.window.capacity bytes.now (found ++ token ∷ []) self.new.plain self.new.window self.new.counts) }
+    {
+        hold_token(
+            &mut self.plain,
+            &mut self.window,
+            &mut self.counts,
+            bytes,
+            token,
+        )
+    }
+
+    /// What is left of the names once all were interned.
+    pub(crate) fn into_symbols(self) -> Symbols
+        requires few { self.counts.created + self.counts.taken < 2 ^ 64 }
+        ensures plain { result.plain ≡ self.plain }
+        ensures counts { result.counts ≡ self.counts }
+        ensures names { result.names ≡ self.counts.created + self.counts.taken }
+    {
+        Symbols {
+            names: self.counts.created + self.counts.taken,
+            plain: self.plain,
+            counts: self.counts,
+        }
+    }
 }

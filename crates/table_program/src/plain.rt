@@ -11,14 +11,12 @@ ghost use Rattle.table_program.specs.Words.{name_for};
 ghost use Rattle.table_program.specs.Runs.{told_file, NamedRose, limit_note, IsOneOf, IsPlainNote, Writes, WritesPartOf};
 
 use crate::command::{Command, refused, write_text};
+use crate::interning::intern_tokens;
 use crate::limits::{MOST_BYTES, limit_of};
-use crate::literals::intern_literals;
-use crate::names::intern_names;
 use crate::outcome::Outcome;
 use crate::reading::read_file;
 use crate::settle::settle_level;
 use io_edge::{Files, Sink};
-use name_scan::{Token, scan};
 use plain_interner::Plain;
 use std::alloc::{AllocError, Global};
 use table_report::{Report, Statistics2, report_text};
@@ -62,26 +60,24 @@ fn file_report(alloc: Global, bytes: &[u8]) -> Result<Vec<u8>, Outcome>
     if let Some(note) = limit_of(bytes) {
         return Err(Outcome { status: 4, note });
     }
-    let tokens = scan(alloc, bytes)?;
-    Ok(tokens_report(alloc, bytes, tokens.as_slice())?)
+    Ok(short_report(alloc, bytes)?)
 }
 
-/// The report of a file's tokens, which are within the limits.
-fn tokens_report(alloc: Global, bytes: &[u8], tokens: &[Token]) -> Result<Vec<u8>, AllocError>
+/// The report of a file's bytes, which are within the limits.
+fn short_report(alloc: Global, bytes: &[u8]) -> Result<Vec<u8>, AllocError>
     requires few { length bytes.now ≤ 67108864 }
-    requires tokens { tokens.now ≡ tokens_of.tokens bytes.now }
-    requires short { All (IsShort bytes.now) tokens.now }
+    requires short { All (IsShort bytes.now) (tokens_of.tokens bytes.now) }
     ensures report { IfOk result (λ text. IsPlainReport bytes.now text.items) }
 {
-    let symbols = intern_names(alloc, bytes, tokens, HOLD)?;
-    let strings = intern_literals(alloc, bytes, tokens, HOLD)?;
+    let left = intern_tokens(alloc, bytes, HOLD)?;
+    let references = left.symbols.plain.references();
     let report = Report {
-        names: symbols.names,
-        symbols: settled(SYMBOL_LOAD, &symbols.plain, symbols.plain.references()),
-        literals: strings.literals,
-        strings: settled(STRING_LOAD, &strings.plain, 0),
-        symbol_log: symbols.counts,
-        string_log: strings.counts,
+        names: left.symbols.names,
+        symbols: settled(SYMBOL_LOAD, &left.symbols.plain, references),
+        literals: left.strings.literals,
+        strings: settled(STRING_LOAD, &left.strings.plain, 0),
+        symbol_log: left.symbols.counts,
+        string_log: left.strings.counts,
     };
     report_text(alloc, &report)
 }

@@ -26,7 +26,7 @@ impl From<AllocError> for ReadFault {
 }
 
 /// The bytes that one read asks for at most.
-const CHUNK: usize = 4096;
+const CHUNK: usize = 65_536;
 
 /// Reads the file of that name to its end, if it has at most `most` bytes.
 ///

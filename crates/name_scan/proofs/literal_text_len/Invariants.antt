@@ -1,7 +1,9 @@
-use Rattle.std.proofs.Common.{◌≡◌, take}
-use Rattle.name_scan.specs.Pieces.{IsLiteralText, takes_next}
+use Rattle.std.proofs.Common.{◌-◌, length}
+use Rattle.name_scan.proofs.Texts.{ReadsTo}
 use Rattle.name_scan.proofs.literal_text_len.Given as goal
 
--- the bytes that have gone by may be a literal's text, and `taken` says whether the next one is taken along
 abbrev pub invariant-loop-len : goal.invariant-loop-len
-invariant-loop-len l = IsLiteralText l.len l.behind × (l.taken ≡ takes_next (take l.len l.behind))
+invariant-loop-len l = ReadsTo l.len l.behind
+
+abbrev pub decreases-loop-len : goal.decreases-loop-len
+decreases-loop-len l = length l.behind - l.len

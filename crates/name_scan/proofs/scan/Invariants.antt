@@ -1,9 +1,9 @@
 use Rattle.std.proofs.Common.{◌-◌, length}
-use Rattle.name_scan.proofs.Scans.{Completes}
+use Rattle.name_scan.proofs.TokensFrom.{Completes}
 use Rattle.name_scan.proofs.scan.Given as goal
 
-abbrev pub invariant-loop-at : goal.invariant-loop-at
-invariant-loop-at l = Completes l.bytes l.at l.found.items
+abbrev pub invariant-loop-found : goal.invariant-loop-found
+invariant-loop-found l = Completes l.bytes l.at l.tokens.items
 
-abbrev pub decreases-loop-at : goal.decreases-loop-at
-decreases-loop-at l = length l.bytes - l.at
+abbrev pub decreases-loop-found : goal.decreases-loop-found
+decreases-loop-found l = length l.bytes - l.at
