@@ -58,6 +58,7 @@ pub mod PollAnswers
 pub mod WorkRuns
 pub mod FullPasses
 pub mod PollCalls
+pub mod LastEvents
 pub mod Waited
 pub mod SweepUnlinks
 pub mod SweepRuns

@@ -26,16 +26,16 @@ use Rattle.call_machine.specs.declared.resize.Resize.{Resize}
 use Rattle.call_machine.specs.declared.resize.ResizeStage.TheVariants.{PutNewLevel}
 use Rattle.call_machine.specs.Clean.{begun_clean}
 use Rattle.call_machine.specs.Resize.{begun_resize, end_level}
-use Rattle.call_machine.specs.WorkMonitor.{locked, counts, ends}
+use Rattle.call_machine.specs.WorkMonitor.{locked, counts}
 use Rattle.call_machine.specs.ResizeRuns.{is_done, IsRun, ends_at, events_of_run, moves_of_run}
 use Rattle.call_machine.specs.ResizeRuns as resize
 use Rattle.call_machine.specs.SoundResize.{LeadsToLevel}
 use Rattle.call_machine.specs.WholeClean as whole
 use Rattle.call_machine.specs.Work.{begun_work, resumes}
 use Rattle.call_machine.proofs.CleanGraces.{graces_law}
-use Rattle.call_machine.proofs.ResizeEnds.{ending_law, grow_graces_law, shrink_graces_law, told_law}
+use Rattle.call_machine.proofs.ResizeEnds.{grow_graces_law, shrink_graces_law, told_law}
 use Rattle.call_machine.proofs.ResizeLocks.{whole_heads_law}
-use Rattle.call_machine.proofs.WholeClean.{counts_end, locks_end, ends_end}
+use Rattle.call_machine.proofs.WholeClean.{counts_end, locks_end}
 use Rattle.call_machine.proofs.WorkRuns.{cleans_law, resizes_law}
 use Rattle.cht_core.specs.declared.table.Table.{Table}
 use Rattle.cht_core.specs.Causes.{IsSpent, IsBusy, IsAtLevel}
@@ -53,11 +53,12 @@ use Rattle.cht_run.specs.Graces.{counter_in, IsUnspent}
 use Rattle.cht_run.specs.History.{log_of}
 use Rattle.cht_run.specs.Seats.{history, seen, work_of, IsOf}
 use Rattle.cht_run.specs.Unlinks.{HasFreed}
-use Rattle.cht_run.specs.Waits.{CleanDid, heads_left, HasGraces, ResizeDid, HasFew, FinishesWork, DidSo, FinishedSo, Finishes}
+use Rattle.cht_run.specs.Waits.{ends_last, CleanDid, heads_left, HasGraces, ResizeDid, HasFew, FinishesWork, DidSo, FinishedSo, Finishes}
 use Rattle.cht_run.specs.Works.{HasFinished, IsWorkOf, IsRefused, WasLevel, left_by, WasSo, BeginsWork, Runs, IsDone, IsLeft, Leaves}
 use Rattle.cht_run.proofs.DeadUnlinked.{unlinks_dead}
 use Rattle.cht_run.proofs.Histories.{log-append}
 use Rattle.cht_run.proofs.Following.{because, ended_both, not_called, later, earlier}
+use Rattle.cht_run.proofs.LastEvents.{clean_ends_last, resize_ends_last}
 use Rattle.cht_run.proofs.WorkRuns.{runs_none, runs_both}
 
 -- A WORK BEGINS AFTER THOSE OF OTHERS
@@ -157,7 +158,7 @@ clean_did shape did worked last sound runs =
       counts = ap (after_all counts (Some (0, 0))) (sym made) ∙ counts_end shape shape.min_level runs.words worked sound level ran.0 done;
       few = graces_law shape shape.min_level runs.words worked sound level ran.0 done;
       locks = ap (after_all locked (Some None)) (sym made) ∙ locks_end shape shape.min_level runs.words worked sound level ran.0 done;
-      ends = ap (after_all ends (Some (what.ResizeGiven ∷ []))) (sym made) ∙ ends_end shape shape.min_level runs.words worked sound level ran.0 done;
+      ends = ap (after_all ends_last (Some (what.ResizeGiven ∷ []))) (sym made) ∙ clean_ends_last shape shape.min_level runs.words worked sound level ran.0 done;
     }
 
 -- a grow or a shrink from its beginning on
@@ -185,7 +186,7 @@ resize_did shape d level did worked last sound leads runs =
     let (n, counted, so) = graces_so shape d level runs.words run done in
     let told = told_law shape d level runs.words worked n run is counted in
     record {
-      ends = ap (after_all ends (Some (what.Level (end_level d level) ∷ what.ResizeGiven ∷ []))) (sym made) ∙ ending_law shape d level runs.words run done;
+      ends = ap (after_all ends_last (Some (what.Level (end_level d level) ∷ what.ResizeGiven ∷ []))) (sym made) ∙ resize_ends_last shape d level runs.words run done;
       level_is = told.2;
       unlinked = told.0;
       graces = n;

@@ -1,5 +1,5 @@
 -- How works end that are waited for.
-use Rattle.std.specs.Prelude.{◌≡◌, ℕ, ◌+◌, ◌-◌, ◌^◌, ◌≤◌, min, List, [], ◌∷◌, ◌++◌, Some, None}
+use Rattle.std.specs.Prelude.{◌≡◌, ℕ, ◌+◌, ◌-◌, ◌^◌, ◌≤◌, min, List, [], ◌∷◌, ◌++◌, Option, Some, None}
 use Rattle.intern_log.specs.declared.event.Event.{Event}
 use Rattle.intern_log.specs.declared.event.Handle.{Handle}
 use Rattle.intern_log.specs.declared.event.What.{What}
@@ -37,13 +37,18 @@ use Rattle.cht_run.specs.Graces.{IsUnspent}
 use Rattle.cht_run.specs.Unlinks.{HasFreed}
 use Rattle.cht_run.specs.Works.{IsBound, WasLevel, WasSo, IsDone}
 
+-- these events come in this order, each once, and nothing comes after the last of them
+abbrev pub ends_last : List What → What → Option (List What)
+ends_last [] e = None
+ends_last (next ∷ to_come) e = ends (next ∷ to_come) e
+
 -- what a clean that is done did after it took the resize lock: its Unlinks and its Graces are counted, up to 2^64 - 1; each bucket that it locked
--- it has unlocked before the next; and it gave the resize lock back once, and stored no level
+-- it has unlocked before the next; it stored no level; and last of all it gave the resize lock back, once
 pub record CleanDid (did : List What) (worked : Worked) : Type 0 where
   pub counts : after_all counts (Some (0, 0)) did ≡ Some (worked.unlinked, worked.graces)
   pub few : worked.graces ≤ worked.unlinked
   pub locks : after_all locked (Some None) did ≡ Some None
-  pub ends : after_all ends (Some (what.ResizeGiven ∷ [])) did ≡ Some []
+  pub ends : after_all ends_last (Some (what.ResizeGiven ∷ [])) did ≡ Some []
 
 -- the heads of the row that a resize leaves; they stay locked
 abbrev pub heads_left : Direction → ℕ → List (ℕ × ℕ)
@@ -55,10 +60,10 @@ abbrev pub HasGraces : Direction → ℕ → ℕ → Type 0
 HasGraces Grow level graces = Unit {0}
 HasGraces Shrink level graces = graces ≡ 2 ^ (level - 1) + 1
 
--- what a grow or a shrink that is done did from a level on: it stored the next level once and then gave the resize lock back; its Graces are
+-- what a grow or a shrink that is done did from a level on: it stored the next level once, and last of all gave the resize lock back; its Graces are
 -- counted, up to 2^64 - 1; and each head that it locked is unlocked, but those of the row that it left
 pub record ResizeDid (d : Direction) (level : ℕ) (did : List What) (worked : Worked) : Type 0 where
-  pub ends : after_all ends (Some (what.Level (end_level d level) ∷ what.ResizeGiven ∷ [])) did ≡ Some []
+  pub ends : after_all ends_last (Some (what.Level (end_level d level) ∷ what.ResizeGiven ∷ [])) did ≡ Some []
   pub level_is : worked.level ≡ end_level d level
   pub unlinked : worked.unlinked ≡ 0
   pub graces : ℕ
