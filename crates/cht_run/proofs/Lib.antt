@@ -60,6 +60,7 @@ pub mod FullPasses
 pub mod PollCalls
 pub mod LastEvents
 pub mod Waited
+pub mod SweepGraces
 pub mod SweepUnlinks
 pub mod SweepRuns
 pub mod InternWaits

@@ -68,6 +68,7 @@ use Rattle.cht_run.specs.Told.{SweepFound, WorkFound}
 use Rattle.cht_run.specs.Unlinks.{HasFreed, UnlinksOn}
 use Rattle.cht_run.proofs.Ended.{went_ended}
 use Rattle.cht_run.proofs.GraceCalls.{own_left}
+use Rattle.cht_run.proofs.SweepGraces.{one_grace}
 use Rattle.cht_run.proofs.SweepUnlinks.{had_locked, its_bucket, lock_law, unlinks_on}
 use Rattle.cht_run.proofs.WorkRuns.{finds_own}
 
@@ -288,6 +289,7 @@ module _ (cht : Cht) (old new : Seat) (m : Machine) (text : Bor (List ℕ)) (of 
         count = told.0;
         did_so = record {
           lock = lock_law s ran.words came.fitting ∙ ap (λ b. Some b) (bucket_is unlinked answered);
+          graces = one_grace caller hash ran.words came.fitting;
           counts = told.1;
           sections = sections_end caller hash ran.words (answer.Swept unlinked) sound came.fitting (planned (answer.Swept unlinked) answered);
           locks = locks_end caller hash ran.words (answer.Swept unlinked) sound came.fitting (planned (answer.Swept unlinked) answered);

@@ -1,7 +1,9 @@
 -- How a sweep ends.
-use Rattle.std.specs.Prelude.{◌≡◌, ◌<◌, ℕ, min, false, List, [], Some, None}
+use Rattle.std.specs.List.{count_by}
+use Rattle.std.specs.Prelude.{◌≡◌, ◌<◌, ◌≤◌, ℕ, min, false, List, [], Some, None}
 use Rattle.text_words.specs.Hash.{hash_of}
 use Rattle.intern_log.specs.declared.event.What.{What}
+use Rattle.intern_log.specs.Orderly.{is_grace}
 use Rattle.atomic_step.specs.Monitor.{after_all, section}
 use Rattle.call_machine.specs.WorkMonitor.{locked, unlinks}
 use Rattle.cht_core.specs.Passes.{HasSwept}
@@ -17,9 +19,10 @@ use Rattle.cht_run.specs.Graces.{IsUnspent}
 use Rattle.cht_run.specs.Seats.{seen}
 use Rattle.cht_run.specs.Unlinks.{HasFreed, UnlinksOn, locks_one}
 
--- what a sweep did: it locked one bucket, once; its Unlinks are counted, up to 2^64 - 1; and its Opens and Closes come in pairs, as do its Lock and Unlock
+-- what a sweep did: it locked one bucket, once, and began one grace at most; its Unlinks are counted, up to 2^64 - 1; and its Opens and Closes come in pairs, as do its Lock and Unlock
 pub record SweepDid (did : List What) (row bucket unlinked : ℕ) : Type 0 where
   pub lock : after_all locks_one (Some None) did ≡ Some (Some (row, bucket))
+  pub graces : count_by is_grace did ≤ 1
   pub counts : after_all unlinks (Some 0) did ≡ Some unlinked
   pub sections : after_all section (Some false) did ≡ Some false
   pub locks : after_all locked (Some None) did ≡ Some None
