@@ -1,1 +1,3 @@
-pub mod GivenOut
+pub mod Longest
+pub mod Places
+pub mod TextMaps

@@ -1,2 +1,3 @@
+pub mod Entries
+pub mod Longest
 pub mod State
-pub mod View

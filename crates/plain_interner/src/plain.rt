@@ -7,8 +7,9 @@ ghost use Rattle.intern_log.specs.Buckets.{longest_bucket};
 ghost use Rattle.intern_log.specs.EntryCounts.{released_of, references_of};
 ghost use Rattle.plain_interner.specs.State.{Follows, event_of, HasNewSlot, IsOfKind};
 
+use crate::entries::Entries;
 use crate::numbers::{longest, references};
-use intern_log::{Handle, Kind, PERMANENT, Released, Replay, What};
+use intern_log::{Handle, Kind, PERMANENT, Released, What};
 use std::alloc::{AllocError, Global};
 use std::marker::Model;
 
@@ -28,8 +29,7 @@ pub enum PlainInterned {
 #[derive(Drop)]
 pub struct Plain {
     kind: Kind,
-    replay: Replay,
-    created: u32,
+    entries: Entries,
 }
 
 impl Model for Plain {
@@ -39,11 +39,7 @@ impl Model for Plain {
 
     ghost coded = { state_code };
 
-    ghost use Rattle.plain_interner.specs.View.{IsGivenOut};
-
-    ghost view = { λ p. record { kind = p.kind; texts = p.replay; created = p.created } };
-
-    ghost invariant = { λ p. IsGivenOut p.replay p.created };
+    ghost view = { λ p. record { kind = p.kind; texts = p.entries.texts; created = p.entries.created } };
 }
 
 impl Plain {
@@ -53,8 +49,7 @@ impl Plain {
     {
         Plain {
             kind,
-            replay: Replay::new(alloc),
-            created: 0,
+            entries: Entries::new(alloc),
         }
     }
 
@@ -69,7 +64,7 @@ impl Plain {
     pub fn created(&self) -> u64
         ensures created { result ≡ self.now.created }
     {
-        u64::from(self.created)
+        u64::from(self.entries.created())
     }
 
     /// The handle of the text, which is live from here on. It asks for at most 65,535 bytes, and that
@@ -84,22 +79,19 @@ impl Plain {
         ensures err { OnErr result (self.new ≡ self.old) }
         ensures memory { OnErr result (entry_of self.old.texts text.now ≡ None) }
     {
-        let Some(entry) = self.replay.entry(text) else {
-            let handle = Handle {
-                slot: self.created,
-                generation: 0,
-            };
-            self.replay.create(text, handle)?;
-            self.created += 1;
-            return Ok(PlainInterned::Created(handle));
-        };
         match self.kind {
             Kind::Counted => {
-                self.replay.take(text);
-                Ok(PlainInterned::Taken(entry.handle))
+                if let Some(handle) = self.entries.take(text) {
+                    return Ok(PlainInterned::Taken(handle));
+                }
             }
-            Kind::Weak => Ok(PlainInterned::Found(entry.handle)),
+            Kind::Weak => {
+                if let Some(handle) = self.entries.handle_of(text) {
+                    return Ok(PlainInterned::Found(handle));
+                }
+            }
         }
+        Ok(PlainInterned::Created(self.entries.create(text)?))
     }
 
     /// Takes one hold on a live handle away, in a counted interner. The entry is gone with its last
@@ -111,7 +103,7 @@ impl Plain {
         ensures answer { (text : List ℕ) (e : Entry)
             → entry_of self.old.texts text ≡ Some e → e.handle ≡ handle → result ≡ released_of e.count }
     {
-        let count = self.replay.lower(handle);
+        let count = self.entries.lower(handle);
         if count == PERMANENT {
             return Released::Permanent;
         }
@@ -126,41 +118,38 @@ impl Plain {
         ensures killed { OnTrue result (Follows self.old (What.Kill handle) self.new) }
         ensures dead { OnFalse result (self.new ≡ self.old) }
     {
-        if !self.is_live(handle) {
-            return false;
-        }
-        self.replay.remove(handle);
-        true
+        self.entries.remove(handle)
     }
 
     /// Whether a live entry has this handle: the test for `release`.
     pub fn is_live(&self, handle: Handle) -> bool
         ensures live { IsTrue result ↔ IsLive self.now.texts handle }
     {
-        self.replay.is_live(handle)
+        self.entries.is_live(handle)
     }
 
     /// How many texts are live.
     pub fn live(&self) -> u32
         ensures live { result ≡ length (live_texts self.now.texts) }
     {
-        self.replay.entries().len() as u32
+        self.entries.names().len() as u32
     }
 
     /// How many holds the entries count together; permanent entries count none.
     pub fn references(&self) -> u64
         ensures references { result ≡ references_of self.now.texts }
     {
-        references(self.replay.entries())
+        references(self.entries.entries())
     }
 
     /// The greatest number of live texts in one bucket of a row of 2^level, or 0 where no text is
-    /// live. It takes no memory, and the time of one pass over the texts for each of them.
+    /// live. It takes the time of one pass over the texts, and 4 * 2^level bytes while it runs. Where
+    /// there is no memory for that, it makes a pass for every 4,096 buckets instead.
     pub fn longest(&self, level: u8) -> u32
         requires level { level ≤ 20 }
         ensures longest { result ≡ longest_bucket 0 level (live_texts self.now.texts) }
     {
-        longest(level, self.replay.entries())
+        longest(self.entries.allocator(), level, self.entries.names())
     }
 }
 
@@ -225,6 +214,86 @@ mod tests {
         assert_eq!(rt; plain.references(), 4);
         assert_eq!(rt; plain.longest(0), 3);
         assert_eq!(rt; plain.longest(20), 2);
+        Ok(())
+    }
+
+    // A text of two letters.
+    fn nth(k: u32) -> [u8; 2] {
+        [b'a' + (k / 26 % 26) as u8, b'a' + (k % 26) as u8]
+    }
+
+    // Interns a text of two letters, up to 1,000 entries.
+    fn intern_nth(plain: &mut Plain, k: u32) -> Result<Option<PlainInterned>, AllocError> {
+        if plain.created() >= 1000 {
+            return Ok(None);
+        }
+        Ok(Some(plain.intern(&nth(k))?))
+    }
+
+    // Releases the handle with this slot, where it is live in a counted interner.
+    fn release_slot(plain: &mut Plain, slot: u32) -> Option<Released> {
+        let handle = Handle {
+            slot,
+            generation: 0,
+        };
+        match plain.kind() {
+            Kind::Weak => None,
+            Kind::Counted => {
+                if plain.is_live(handle) {
+                    Some(plain.release(handle))
+                } else {
+                    None
+                }
+            }
+        }
+    }
+
+    #[test]
+    fn entries_that_moved_are_found(rt: HostRuntime) -> Result<(), Fail> {
+        let mut plain = Plain::new(rt.alloc(), Kind::Counted);
+        for k in 0..60 {
+            let _ = intern_nth(&mut plain, k)?;
+        }
+        // every third of the first half goes, from the front, so that entries of the end move there
+        for k in 0..10 {
+            let released = release_slot(&mut plain, 3 * k);
+            assert_eq!(rt; released, Some(Released::Dropped { left: 0 }));
+        }
+        assert_eq!(rt; plain.live(), 50);
+        for k in 0..60 {
+            let gone = k < 30 && k % 3 == 0;
+            let handle = Handle {
+                slot: k,
+                generation: 0,
+            };
+            assert_eq!(rt; plain.is_live(handle), !gone);
+            let answer = if gone {
+                PlainInterned::Created(Handle {
+                    slot: 60 + k / 3,
+                    generation: 0,
+                })
+            } else {
+                PlainInterned::Taken(handle)
+            };
+            assert_eq!(rt; intern_nth(&mut plain, k)?, Some(answer));
+        }
+        assert_eq!(rt; plain.live(), 60);
+        assert_eq!(rt; plain.references(), 110);
+        assert_eq!(rt; plain.created(), 70);
+        Ok(())
+    }
+
+    #[test]
+    fn longest_of_many_texts(rt: HostRuntime) -> Result<(), Fail> {
+        let mut plain = Plain::new(rt.alloc(), Kind::Weak);
+        for k in 0..676 {
+            let _ = intern_nth(&mut plain, k)?;
+        }
+        assert_eq!(rt; plain.live(), 676);
+        assert_eq!(rt; plain.longest(0), 676);
+        assert_eq!(rt; plain.longest(5), 26);
+        assert_eq!(rt; plain.longest(8), 4);
+        assert_eq!(rt; plain.longest(20), 1);
         Ok(())
     }
 }

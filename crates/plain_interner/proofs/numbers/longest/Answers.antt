@@ -1,14 +1,8 @@
-use Rattle.std.proofs.Common.{rules, tests, map, max, sym, ap, ◌∙◌}
-use Rattle.std.proofs.lemmas.List.Folds.{fold-map}
-use Rattle.std.proofs.lemmas.Iterator.Consumers.{YieldsList-from_rest, fold_from_yields_List}
-use Rattle.std.specs.BTreeMap.{keys}
-use Rattle.intern_log.specs.Buckets.{bucket_of, in_bucket, longest_bucket}
-use Rattle.intern_log.proofs.Maps.{live_texts-text_map}
+use Rattle.std.proofs.Common.{◌≡◌, ◌^◌, length, ap, ◌∙◌, arith}
+use Rattle.plain_interner.proofs.Longest.{longest_of-all}
 use Rattle.plain_interner.proofs.numbers.longest.Goals as goal
 
-pub returns : goal.returns
-returns c =
-    let texts = map (λ k. k.items) (keys c.args.entries.now) in
-    fold_from_yields_List _ (λ most k. max most (in_bucket 0 c.args.level texts (bucket_of 0 c.args.level k.items))) 0 c.fold.result c.fold.ensures.ran (YieldsList-from_rest (keys c.args.entries.now) c.keys.ensures.rest) (λ a x b q k. search (rules, tests))
-    ∙ sym (fold-map _ (λ k. k.items) 0 (keys c.args.entries.now))
-    ∙ ap (longest_bucket 0 c.args.level) (sym (live_texts-text_map c.args.entries.now c.keys.ensures.ordered))
+pub returns-in-Ok : goal.returns-in-Ok
+returns-in-Ok c =
+    let len : length c.as_mut_slice.result.now ≡ 2 ^ c.args.level = c.as_mut_slice.ensures.len ∙ c.in-Ok.ensures.len ∙ c.pow.ensures ∙ ap (λ l. 2 ^ l) c.from.ensures in
+    longest_of-all c.args.level c.args.names.now _ c.longest_among.result (omega (arith, len)) c.longest_among.ensures.longest
