@@ -5,9 +5,10 @@ use Rattle.std.specs.List.{cons_option}
 use Rattle.name_scan.specs.declared.Piece.{Piece}
 use Rattle.name_scan.specs.declared.Piece.TheVariants.{Skipped}
 use Rattle.name_scan.specs.declared.Token.{Token}
-use Rattle.name_scan.specs.Pieces.{piece_len, IsPiece, IsCut}
+use Rattle.name_scan.specs.Pieces.{is_name_byte, piece_len, IsPiece, IsCut}
 use Rattle.name_scan.specs.Tokens.{token_at, tokens_at, tokens, tokens_from, pieces}
 use Rattle.name_scan.specs.declared.class.Class.{Class}
+use Rattle.name_scan.specs.declared.class.Class.TheVariants.{Other}
 use Rattle.name_scan.specs.Classes.{IsOf, is_skipped}
 use Rattle.name_scan.proofs.Classes.{class_skipped}
 use Rattle.name_scan.proofs.Cuts.{pieces_cut, same_cut}
@@ -40,6 +41,24 @@ tokens_from_skipped bs at class within test is =
     let same : slice_index (drop at bs) 0 ≡ slice_index bs at = get_or-drop at bs 0 0 ∙ ap (λ k. slice_index bs k) (add-zero at) in
     let skipped = class_skipped class (drop at bs) test (subst (IsOf class) (sym same) is) (omega (arith, length-drop at bs)) in
     sym (tokens_from_no_token bs at Skipped skipped refl)
+
+-- blanks, all of which are passed over
+abbrev pub AreBlank : List ℕ → Type 0
+AreBlank [] = Unit {0}
+AreBlank (b ∷ bs) = (b ≡ 32) × AreBlank bs
+
+blank_is_other : IsOf Other 32
+unfolding is_name_byte
+blank_is_other = record { no_name_byte = refl; no_newline = λ same. cc; no_quote = λ same. cc; no_backslash = λ same. cc }
+
+pub tokens_from_blanks : (blanks rest bs : List ℕ) (at : ℕ) → AreBlank blanks → drop at bs ≡ blanks ++ rest → tokens_from bs (at + length blanks) ≡ tokens_from bs at
+tokens_from_blanks [] rest bs at all is = ap (tokens_from bs) (add-zero at)
+tokens_from_blanks (b ∷ blanks) rest bs at all is =
+    let there : slice_index bs at ≡ 32 = sym (ap (λ k. slice_index bs k) (add-zero at)) ∙ sym (get_or-drop at bs 0 0) ∙ ap (λ l. slice_index l 0) is ∙ all.0 in
+    let within : at < length bs = let some = ap length is in omega (arith, length-drop at bs, some) in
+    let behind : drop (at + 1) bs ≡ blanks ++ rest = sym (drop-drop 1 at bs) ∙ ap (drop 1) is in
+    let on : at + length (b ∷ blanks) ≡ (at + 1) + length blanks = omega arith in
+    ap (tokens_from bs) on ∙ tokens_from_blanks blanks rest bs (at + 1) all.1 behind ∙ tokens_from_skipped bs at Other within refl (subst (IsOf Other) (sym there) blank_is_other)
 
 -- what was found up to a place, and then the tokens from there on, are all the tokens
 pub record Completes (bs : List ℕ) (at : ℕ) (found : List Token) : Type 0 where

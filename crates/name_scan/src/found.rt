@@ -13,6 +13,24 @@ pub struct Found {
     pub behind: usize,
 }
 
+/// Blanks that are passed over at once, where so many stand side by side.
+const BLANKS: &[u8] = b"                ";
+
+/// A place from `at` on between which and `at` there are blanks alone, and from which fewer than
+/// sixteen follow.
+fn past_blanks(bytes: &[u8], at: usize) -> usize
+    requires { at ≤ length bytes.now }
+    ensures further { at ≤ result }
+    ensures within { result ≤ length bytes.now }
+    ensures tokens { tokens_from bytes.now result ≡ tokens_from bytes.now at }
+{
+    let mut place = at;
+    while bytes[place..].starts_with(BLANKS) {
+        place += 16;
+    }
+    place
+}
+
 /// The first place from `at` on whose byte is not passed over by itself, or the end.
 fn past_skipped(bytes: &[u8], at: usize) -> usize
     ensures further { at ≤ result }
@@ -20,7 +38,11 @@ fn past_skipped(bytes: &[u8], at: usize) -> usize
 {
     let mut place = at;
     while place < bytes.len() && Class::of(bytes[place]).is_skipped() {
-        place += 1;
+        place = if place % 16 == 0 {
+            past_blanks(bytes, place + 1)
+        } else {
+            place + 1
+        };
     }
     place
 }

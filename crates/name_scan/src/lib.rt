@@ -246,6 +246,25 @@ mod tests {
     }
 
     #[test]
+    fn passes_over_blanks(rt: HostRuntime) -> Result<(), AllocError> {
+        for place in 0..64 {
+            let mut bytes = [b' '; 64];
+            bytes[place] = b'a';
+            let found = scan(rt.alloc(), &bytes)?;
+            assert_eq!(rt; found.len(), 1, "place {place}");
+            for token in found.iter() {
+                let wanted = Token {
+                    kind: Name,
+                    start: place,
+                    end: place + 1,
+                };
+                assert_eq!(rt; *token, wanted, "place {place}");
+            }
+        }
+        Ok(())
+    }
+
+    #[test]
     fn finds_names_and_literals(rt: HostRuntime) -> Result<(), AllocError> {
         let cases: [(&[u8], &[(TokenKind, usize, usize)]); 12] = [
             (b"", &[]),
