@@ -20,6 +20,7 @@ use Rattle.cht_run.specs.declared.sight.Origin.{Origin}
 use Rattle.cht_run.specs.declared.sight.Sight.{Sight}
 use Rattle.cht_run.specs.declared.table.Cht.{Cht}
 use Rattle.cht_run.specs.Begins.{own_at, first_of}
+use Rattle.cht_run.specs.History.{log_of}
 use Rattle.cht_run.specs.Runs.{Ran, IsPolling}
 use Rattle.cht_run.specs.Seats.{Raw, Sits}
 use Rattle.cht_run.specs.Told.{WorkFound}
@@ -66,4 +67,4 @@ polls_ran b c v m q ran first shape = subst (IsPolling b.origin.table.shape) ran
 -- it has looked at few nodes, in the table of its seat
 pub ran_few : (cht : Cht) (b : Sight) (c : Call) (raw : Raw) (m : Machine) → Sits cht raw → Ran b c raw.me.0 m → IsPolling cht.origin.table.shape m → looked_in m ≤ cht.origin.table.shape.slots
 ran_few cht b c raw m sits ran polls =
-    subst (λ (o : Origin). looked_in m ≤ o.table.shape.slots) (sym ran.went.stays.origin ∙ sits.origin) (looked b.origin.table _ b.number m polls.poll polls.is ran.went.found_out)
+    subst (λ (o : Origin). looked_in m ≤ o.table.shape.slots) (sym ran.went.stays.origin ∙ sits.origin) (looked b.origin.table (log_of raw.me.0.history) b.number m polls.poll polls.is ran.went.found_out)

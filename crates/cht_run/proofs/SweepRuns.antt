@@ -65,7 +65,7 @@ use Rattle.cht_run.specs.Seats.{sight, seen, IsOf}
 use Rattle.cht_run.specs.SweepSteps.{asks, sweeps_at, ended}
 use Rattle.cht_run.specs.Sweeps.{HasSweptAll, Sweeps}
 use Rattle.cht_run.specs.Told.{SweepFound, WorkFound}
-use Rattle.cht_run.specs.Unlinks.{HasFreed, UnlinksOn}
+use Rattle.cht_run.specs.Unlinks.{HasFreed, HasNoLock, UnlinksOn}
 use Rattle.cht_run.proofs.Ended.{went_ended}
 use Rattle.cht_run.proofs.GraceCalls.{own_left}
 use Rattle.cht_run.proofs.SweepGraces.{one_grace}
@@ -265,6 +265,9 @@ module _ (cht : Cht) (old new : Seat) (m : Machine) (text : Bor (List ℕ)) (of 
     freed : HasFreed t (seen new) new.number
     freed = subst (λ (z : Origin × ℕ). HasFreed z.0.table (seen new) z.1) (λ i. (of.origin i, (sym ran.went.stays.number ∙ sym new.named) i)) found_out.1
 
+    no_lock : HasNoLock t (seen new) new.number
+    no_lock = subst (λ (z : Origin × ℕ). HasNoLock z.0.table (seen new) z.1) (λ i. (of.origin i, (sym ran.went.stays.number ∙ sym new.named) i)) found_out.3
+
     -- its bucket is that of the text
     bucket_is : its_bucket end ≡ Some (end.along.cleaning.row, bucket_in end.along.cleaning.row (hash_of cht.origin.seed text.now))
     bucket_is = ap (had_locked end.along.cleaning) end_is ∙ ap (λ b. Some (end.along.cleaning.row, b)) home
@@ -297,6 +300,7 @@ module _ (cht : Cht) (old new : Seat) (m : Machine) (text : Bor (List ℕ)) (of 
         tells = told.2;
         swept_all = swept_all unlinked answered;
         freed = freed unlinked answered;
+        no_lock = no_lock unlinked answered;
         ended = went_ended cht old new (call.Sweep text) m ran.went of.origin (Only (events_of_words sweeps s ran.words)) (λ seen window. IsUnspent t seen window × UnlinksOn t old.number _ _ seen window) did_is
             ((before, later, at, subst (λ n. n < 2 ^ 48) was low), unlinks unlinked answered);
       }

@@ -52,8 +52,8 @@ use Rattle.cht_run.specs.Ends.{HasNothing}
 use Rattle.cht_run.specs.Graces.{counter_in, IsUnspent}
 use Rattle.cht_run.specs.History.{log_of}
 use Rattle.cht_run.specs.Seats.{history, seen, work_of, IsOf}
-use Rattle.cht_run.specs.Unlinks.{HasFreed}
-use Rattle.cht_run.specs.Waits.{ends_last, CleanDid, heads_left, HasGraces, ResizeDid, HasFew, FinishesWork, DidSo, FinishedSo, Finishes}
+use Rattle.cht_run.specs.Unlinks.{HasFreed, HasNoLock}
+use Rattle.cht_run.specs.Waits.{ends_last, CleanDid, heads_left, HasGraces, ResizeDid, FinishesWork, DidSo, FinishedSo, Finishes}
 use Rattle.cht_run.specs.Works.{HasFinished, IsWorkOf, IsRefused, WasLevel, left_by, WasSo, BeginsWork, Runs, IsDone, IsLeft, Leaves}
 use Rattle.cht_run.proofs.DeadUnlinked.{unlinks_dead}
 use Rattle.cht_run.proofs.Histories.{log-append}
@@ -230,22 +230,31 @@ resize_last shape d level did worked last runs =
     let ran = resizes_law shape d (resize.begun level) runs.words runs.fitting in
     (_, refl, ap (λ (at : Working × Option Answer). at.0) (sym runs.leads ∙ ran.2))
 
+-- what is so of what the seat has seen is so of what it had seen with its window
+carried : (t : Table) (old new : Seat) (Did : List What → Type 0) (Why : List Event → List Event → Type 0) (e : Ended t old new Did Why) (P : List Event → ℕ → Type 0) → P (seen new) new.number → P (seen old ++ log_of e.window) old.number
+carried t old new Did Why e P = subst (λ (z : List Event × ℕ). P z.0 z.1) (λ i. ((ap log_of e.whole ∙ log-append (history old) e.window) i, e.keeps.number i))
+
 finished_so : (cht : Cht) (mid : Seat) (w : Work) (x : Task) (level : ℕ) (state : Working) (did : List What) (worked : Worked) → IsOf cht mid → begun_work cht.origin.table.shape (left_by x level) ≡ Some state → IsWorkOf w state mid →
     (new : Seat) → IsDone cht.origin.table state did worked new → (old : Seat) → (e : Ended cht.origin.table old new (Only (what.ResizeTaken ∷ did)) (λ seen window. WasSo cht.origin.table x level seen window)) →
     FinishedSo cht.origin.table old.number x worked (seen old) (log_of e.window)
 finished_so cht mid w task.Clean level state did worked of is has new (last, runs, so) old e =
-    let from = subst (λ y. Runs cht.origin.table.shape y did (last, Some (answer.Done worked))) (sym (some_work (clean_from cht.origin.table.shape) state is)) runs in
-    let one = clean_last cht.origin.table.shape did worked last from in
-    let cleaned : HasCleaned cht.origin.table.shape.min_level (seen new) new.number × HasFreed cht.origin.table (seen new) new.number = subst (λ y. HasFinished cht.origin.table y worked new) one.1 so in
-    let there : HasCleaned cht.origin.table.shape.min_level (seen old ++ log_of e.window) old.number × HasFreed cht.origin.table (seen old ++ log_of e.window) old.number =
-    subst (λ (z : List Event × ℕ). HasCleaned cht.origin.table.shape.min_level z.0 z.1 × HasFreed cht.origin.table z.0 z.1) (λ i. ((ap log_of e.whole ∙ log-append (history old) e.window) i, e.keeps.number i)) cleaned in
-    (unlinks_dead cht.origin.table (seen old) (log_of e.window) old.number did there.0 e.did, there.1)
+    let t = cht.origin.table in
+    let from = subst (λ y. Runs t.shape y did (last, Some (answer.Done worked))) (sym (some_work (clean_from t.shape) state is)) runs in
+    let one = clean_last t.shape did worked last from in
+    let there = carried t old new _ _ e (λ log i. HasNoLock t log i × HasCleaned t.shape.min_level log i × HasFreed t log i) (subst (λ y. HasFinished t y worked new) one.1 so) in
+    (there.0, unlinks_dead t (seen old) (log_of e.window) old.number did there.1 e.did, there.2)
 finished_so cht mid w task.Grow level state did worked of is has new (last, runs, so) old e =
-    let from = subst (λ y. Runs cht.origin.table.shape y did (last, Some (answer.Done worked))) (sym (some_work (resize_from Grow level) state is)) runs in
-    let (r, direction, one) = resize_last cht.origin.table.shape Grow level did worked last from in
-    let few : WorkedWithFew (seen new) r.direction worked = subst (λ y. HasFinished cht.origin.table y worked new) one so in
-    subst (λ l. HasFew l worked) (ap log_of e.whole ∙ log-append (history old) e.window) (subst (λ x. WorkedWithFew (seen new) x worked) direction few)
-finished_so cht mid w task.Shrink level state did worked of is has new done old e = tt
+    let t = cht.origin.table in
+    let from = subst (λ y. Runs t.shape y did (last, Some (answer.Done worked))) (sym (some_work (resize_from Grow level) state is)) runs in
+    let (r, direction, one) = resize_last t.shape Grow level did worked last from in
+    let there = carried t old new _ _ e (λ log i. HasNoLock t log i × WorkedWithFew log r.direction worked) (subst (λ y. HasFinished t y worked new) one so) in
+    (there.0, subst (λ x. WorkedWithFew (seen old ++ log_of e.window) x worked) direction there.1)
+finished_so cht mid w task.Shrink level state did worked of is has new (last, runs, so) old e =
+    let t = cht.origin.table in
+    let from = subst (λ y. Runs t.shape y did (last, Some (answer.Done worked))) (sym (some_work (resize_from Shrink level) state is)) runs in
+    let (r, direction, one) = resize_last t.shape Shrink level did worked last from in
+    let there = carried t old new _ _ e (λ log i. HasNoLock t log i × WorkedWithFew log r.direction worked) (subst (λ y. HasFinished t y worked new) one so) in
+    there.0
 
 -- A WORK THAT WAS WAITED FOR
 

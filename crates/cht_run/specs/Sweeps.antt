@@ -17,7 +17,7 @@ use Rattle.cht_run.specs.Ended.{Ended, Only}
 use Rattle.cht_run.specs.Ends.{HasNothing}
 use Rattle.cht_run.specs.Graces.{IsUnspent}
 use Rattle.cht_run.specs.Seats.{seen}
-use Rattle.cht_run.specs.Unlinks.{HasFreed, UnlinksOn, locks_one}
+use Rattle.cht_run.specs.Unlinks.{HasFreed, HasNoLock, UnlinksOn, locks_one}
 
 -- what a sweep did: it locked one bucket, once, and began one grace at most; its Unlinks are counted, up to 2^64 - 1; and its Opens and Closes come in pairs, as do its Lock and Unlock
 pub record SweepDid (did : List What) (row bucket unlinked : ℕ) : Type 0 where
@@ -42,6 +42,7 @@ pub record SweptBucket (o : Origin) (text : List ℕ) (old new : Seat) (unlinked
   pub tells : unlinked ≡ min count 4294967295
   pub swept_all : HasSweptAll o text new unlinked
   pub freed : HasFreed o.table (seen new) new.number
+  pub no_lock : HasNoLock o.table (seen new) new.number
   pub ended : Ended o.table old new (Only did) (λ seen window. IsUnspent o.table seen window × UnlinksOn o.table old.number row (bucket_in row (hash_of o.seed text)) seen window)
 
 -- how a sweep ends: it has swept a bucket; or the counter was too great, and it did nothing

@@ -45,7 +45,7 @@ use Rattle.cht_run.specs.History.{log_of, draws_of, is_drawn, HasSeen, NoneBy}
 use Rattle.cht_run.specs.Covers.{MachineEnds}
 use Rattle.cht_run.specs.ReadKept.{MachineReads}
 use Rattle.cht_run.specs.Rule.{is_seat, CountsDraws}
-use Rattle.cht_run.specs.Unlinks.{HasFreed, MachineUnlinks}
+use Rattle.cht_run.specs.Unlinks.{HasFreed, HasNoLock, MachineUnlinks}
 
 -- what a step adds to the history: its event, and the number that it draws
 abbrev pub tells : ℕ → Option What → List Entry
@@ -99,14 +99,14 @@ pub record Found (o : Origin) (v : Sight) (history : List Entry) (m : Machine) (
 
 -- what a poll or a sweep has found out by the end of a log: a poll has looked at few nodes in its pass or its pair, a clean that is done has unlinked
 -- what was dead as its seat took the resize lock, a grow that is done has had few graces, and a sweep of few slots has unlinked what was dead in its
--- bucket. After a clean and a sweep all that the seat has unlinked is freed
+-- bucket. After a clean and a sweep all that the seat has unlinked is freed, and after each of the four it has no bucket locked
 abbrev pub PollFound : Table → List Event → ℕ → Work → Option Answer → Type 0
-PollFound t log i (work.Clean c) (Some (answer.Done did)) = HasCleaned t.shape.min_level log i × HasFreed t log i
-PollFound t log i (work.Resize r) (Some (answer.Done did)) = WorkedWithFew log r.direction did
+PollFound t log i (work.Clean c) (Some (answer.Done did)) = HasNoLock t log i × HasCleaned t.shape.min_level log i × HasFreed t log i
+PollFound t log i (work.Resize r) (Some (answer.Done did)) = HasNoLock t log i × WorkedWithFew log r.direction did
 PollFound t log i _ _ = Unit {0}
 
 abbrev pub SweepFound : Table → List Event → ℕ → ℕ → Cleaning → SweepStage → Type 0
-SweepFound t log i hash c (sweep.Answered (answer.Swept many)) = (many < 256 → HasSwept t.shape.min_level log i hash) × HasFreed t log i × IsAtHash hash c
+SweepFound t log i hash c (sweep.Answered (answer.Swept many)) = (many < 256 → HasSwept t.shape.min_level log i hash) × HasFreed t log i × IsAtHash hash c × HasNoLock t log i
 SweepFound t log i hash c _ = Unit {0}
 
 abbrev pub WorkFound : Table → List Event → ℕ → Machine → Type 0

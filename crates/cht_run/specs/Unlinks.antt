@@ -20,6 +20,10 @@ use Rattle.cht_core.specs.Past.{by}
 abbrev pub HasFreed : Table → List Event → ℕ → Type 0
 HasFreed t log i = IsShort log → (s at : ℕ) → (now_in t log).slot s ≢ Unlinked i at
 
+-- no bucket is locked by the seat
+abbrev pub HasNoLock : Table → List Event → ℕ → Type 0
+HasNoLock t log i = (row bucket : ℕ) → (now_in t log).lock row bucket ≢ Some i
+
 -- each slot that the seat unlinks in the window has a text of this bucket in the row
 abbrev pub UnlinksOn : Table → ℕ → ℕ → ℕ → List Event → List Event → Type 0
 UnlinksOn t i row bucket seen window = (front back : List Event) (s : ℕ) → window ≡ front ++ by i (what.Unlink s) ∷ back → slot_bucket (now_in t (seen ++ front)) row s ≡ Some bucket

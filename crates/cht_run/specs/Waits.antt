@@ -34,7 +34,7 @@ use Rattle.cht_run.specs.declared.waits.Shrunk.TheVariants as shrunk
 use Rattle.cht_run.specs.Ended.{Ended, Only}
 use Rattle.cht_run.specs.Ends.{HasNothing}
 use Rattle.cht_run.specs.Graces.{IsUnspent}
-use Rattle.cht_run.specs.Unlinks.{HasFreed}
+use Rattle.cht_run.specs.Unlinks.{HasFreed, HasNoLock}
 use Rattle.cht_run.specs.Works.{IsBound, WasLevel, WasSo, IsDone}
 
 -- these events come in this order, each once, and nothing comes after the last of them
@@ -86,9 +86,9 @@ HasFew log worked = WorkedWithFew log Grow worked
 
 -- what a work that is done has found out by the window of its seat's call: a clean has unlinked what was dead, and freed what it unlinked
 abbrev pub FinishedSo : Table → ℕ → Task → Worked → List Event → List Event → Type 0
-FinishedSo t i task.Clean worked seen window = UnlinksDead t seen window × HasFreed t (seen ++ window) i
-FinishedSo t i task.Grow worked seen window = HasFew (seen ++ window) worked
-FinishedSo t i task.Shrink worked seen window = Unit {0}
+FinishedSo t i task.Clean worked seen window = HasNoLock t (seen ++ window) i × UnlinksDead t seen window × HasFreed t (seen ++ window) i
+FinishedSo t i task.Grow worked seen window = HasNoLock t (seen ++ window) i × HasFew (seen ++ window) worked
+FinishedSo t i task.Shrink worked seen window = HasNoLock t (seen ++ window) i
 
 -- how a call ends that waits for a work: it is done, or it was at its bound, or the counter is too great
 abbrev pub DidSo : Task → ℕ → List What → Worked → Type 0
@@ -104,18 +104,18 @@ Finishes t x old new (finished.Done worked) = HasNothing new × ((level : ℕ) �
 
 abbrev pub Cleans : Table → Seat → Seat → Cleaned → Type 0
 Cleans t old new (cleaned.Spent counter) = HasNothing new × Ended t old new (Only []) (λ seen window. IsSpent t seen window counter)
-Cleans t old new (cleaned.Done worked) = HasNothing new × ((did : List What) × CleanDid did worked × Ended t old new (Only (what.ResizeTaken ∷ did)) (λ seen window. IsUnspent t seen window × (UnlinksDead t seen window × HasFreed t (seen ++ window) old.number)))
+Cleans t old new (cleaned.Done worked) = HasNothing new × ((did : List What) × CleanDid did worked × Ended t old new (Only (what.ResizeTaken ∷ did)) (λ seen window. IsUnspent t seen window × (HasNoLock t (seen ++ window) old.number × UnlinksDead t seen window × HasFreed t (seen ++ window) old.number)))
 
 abbrev pub Grows : Table → Seat → Seat → Grown → Type 0
 Grows t old new (grown.Spent counter) = HasNothing new × Ended t old new (Only []) (λ seen window. IsSpent t seen window counter)
 Grows t old new (grown.AtMaximum level) =
     HasNothing new × (level ≡ t.shape.max_level) × Ended t old new (Only (what.ResizeTaken ∷ what.ResizeGiven ∷ [])) (λ seen window. WasLevel t level seen window)
 Grows t old new (grown.Done worked) = HasNothing new × ((level : ℕ) × ¬ (level ≡ t.shape.max_level)
-    × ((did : List What) × ResizeDid Grow level did worked × Ended t old new (Only (what.ResizeTaken ∷ did)) (λ seen window. WasLevel t level seen window × HasFew (seen ++ window) worked)))
+    × ((did : List What) × ResizeDid Grow level did worked × Ended t old new (Only (what.ResizeTaken ∷ did)) (λ seen window. WasLevel t level seen window × (HasNoLock t (seen ++ window) old.number × HasFew (seen ++ window) worked))))
 
 abbrev pub Shrinks : Table → Seat → Seat → Shrunk → Type 0
 Shrinks t old new (shrunk.Spent counter) = HasNothing new × Ended t old new (Only []) (λ seen window. IsSpent t seen window counter)
 Shrinks t old new (shrunk.AtMinimum level) =
     HasNothing new × (level ≡ t.shape.min_level) × Ended t old new (Only (what.ResizeTaken ∷ what.ResizeGiven ∷ [])) (λ seen window. WasLevel t level seen window)
 Shrinks t old new (shrunk.Done worked) = HasNothing new × ((level : ℕ) × ¬ (level ≡ t.shape.min_level)
-    × ((did : List What) × ResizeDid Shrink level did worked × Ended t old new (Only (what.ResizeTaken ∷ did)) (λ seen window. WasLevel t level seen window × Unit {0})))
+    × ((did : List What) × ResizeDid Shrink level did worked × Ended t old new (Only (what.ResizeTaken ∷ did)) (λ seen window. WasLevel t level seen window × HasNoLock t (seen ++ window) old.number)))

@@ -41,7 +41,7 @@ use Rattle.cht_run.specs.Ends.{HasNothing}
 use Rattle.cht_run.specs.FullPasses.{RunsWithFew}
 use Rattle.cht_run.specs.Graces.{IsUnspent}
 use Rattle.cht_run.specs.Seats.{sight, seen, work_of, grace_of}
-use Rattle.cht_run.specs.Unlinks.{HasFreed}
+use Rattle.cht_run.specs.Unlinks.{HasFreed, HasNoLock}
 
 -- the seat has this work unfinished
 pub record IsWorkOf (work : Work) (state : Working) (seat : Seat) : Type 0 where
@@ -122,10 +122,10 @@ pub record Runs (shape : Shape) (from : Working) (did : List What) (to : Working
   pub few : RunsWithFew shape from words
 
 -- a clean that is done has unlinked what was dead where its seat took the resize lock, and before, and has freed what it unlinked; and a grow has had at most
--- one grace more than there are Creates
+-- one grace more than there are Creates. The seat has no bucket locked
 abbrev pub HasFinished : Table → Working → Worked → Seat → Type 0
-HasFinished t (work.Clean c) worked seat = HasCleaned t.shape.min_level (seen seat) seat.number × HasFreed t (seen seat) seat.number
-HasFinished t (work.Resize r) worked seat = WorkedWithFew (seen seat) r.direction worked
+HasFinished t (work.Clean c) worked seat = HasNoLock t (seen seat) seat.number × HasCleaned t.shape.min_level (seen seat) seat.number × HasFreed t (seen seat) seat.number
+HasFinished t (work.Resize r) worked seat = HasNoLock t (seen seat) seat.number × WorkedWithFew (seen seat) r.direction worked
 
 -- the work is done, with these events; or it is to be polled again
 abbrev pub IsDone : Table → Working → List What → Worked → Seat → Type 0
